@@ -1,12 +1,11 @@
 -- What is printed of a run over a store's file. This project's rules.
-use Rattle.std.specs.Prelude.{◌≡◌, ◌≤◌, ◌*◌, ◌⊎◌, ℕ, Option, Some, None, Result, Ok, Err, List}
+use Rattle.std.specs.Prelude.{◌≡◌, ◌≤◌, ◌*◌, ℕ, Bool, Option, Some, None, Result, Ok, Err, List}
 use Rattle.cb_jobs.specs.Outcomes.{PrintsCounted, PrintsRun}
 use Rattle.cb_jobs.specs.declared.printing.Counted.{Counted}
 use Rattle.cb_console.specs.declared.config.Config.{Config}
 use Rattle.cb_console.specs.RunSettings.{IsRunSettings, PrintsRefusal}
 use Rattle.cb_console.specs.declared.running.RunFault.{RunFault}
-use Rattle.cb_run.specs.Ends.{WasCutOff, WasOver}
-use Rattle.cb_run.specs.Runs.{ending_of_shelf}
+use Rattle.cb_run.specs.Runs.{AreAll, ending_of_shelf}
 use Rattle.cb_play.specs.declared.store_file.Reach.{Reach}
 use Rattle.cb_play.specs.declared.store_file.Reach.TheVariants as reach
 use Rattle.cb_play.specs.declared.store_file.StoreEnd.{StoreEnd}
@@ -16,12 +15,10 @@ use Rattle.cb_play.specs.declared.store_file.StoreFile.{StoreFile}
 abbrev pub all_jobs : Config → ℕ
 all_jobs settings = settings.limits.clients * settings.jobs
 
--- All jobs of all clients were committed, fewer only where the run was cut off; and it was over,
--- with each commit on disk.
-pub record HasAll (settings : Config) (counted : Counted) : Type 0 where
+-- All jobs of all clients were committed, fewer only if the run was cut off; and it was over.
+pub record HasAll (settings : Config) (cut_off : Option Bool) (counted : Counted) : Type 0 where
   pub few : counted.committed ≤ all_jobs settings
-  pub exact : (counted.committed ≡ all_jobs settings) ⊎ WasCutOff
-  pub over : WasOver
+  pub exact : AreAll (all_jobs settings) cut_off counted.committed
 
 -- What is printed of a run over a store that came so far, with the status: of one that was refused
 -- its fault; of one that was read some outcome of a run.
@@ -39,7 +36,7 @@ pub record PrintsOver (path : List ℕ) (settings : Config) (ended : StoreEnd)
   pub file : StoreFile
   pub opened : ended.file ≡ Some file
   pub of_path : file.path.now ≡ path
-  pub prints : PrintsReached file.reach (HasAll settings) ended.status
+  pub prints : PrintsReached file.reach (HasAll settings ended.run) ended.status
       old_out new_out old_err new_err
 
 -- What is printed, with the status: where workers can run, what came of the store in the file of

@@ -43,7 +43,7 @@ pub(crate) fn serve_store<'a, I: Read, O: Write, E: Write>(
         Ok(config) => {
             let (file, served) = serve_file(rt, &config, store, announces, input, out);
             let status = print_served(served, err)?;
-            Ok(StoreEnd::over(status, file))
+            Ok(StoreEnd::over(status, file, None))
         }
         Err(fault) => {
             let status = print_refusal(&RunFault::from(fault), err)?;

@@ -9,6 +9,7 @@ ghost use Rattle.sqlite.specs.State.{HasCleanDisk};
 
 use cb_commit::Store;
 use cb_page::Limits;
+use cb_run::PastRun;
 use cb_shelf::{Life, Shelf, ShelfFault};
 use sqlite::{Alter, Connection, File, FileStore};
 use std::alloc::Global;
@@ -36,12 +37,13 @@ pub(crate) struct StoreFile<'a> {
     reach: Reach,
 }
 
-/// How a command over a store ended: the program's status, and the file that it opened. There is
-/// none if it came to no file.
+/// How a command over a store ended: the program's status, the file that it opened, and that its run
+/// was over. There is no file where it came to none, and no run where no jobs were counted.
 #[derive(Drop)]
 pub(crate) struct StoreEnd<'a> {
     pub(crate) status: u8,
     pub(crate) file: Option<StoreFile<'a>>,
+    pub(crate) run: Option<PastRun>,
 }
 
 impl<'a> StoreEnd<'a> {
@@ -50,16 +52,21 @@ impl<'a> StoreEnd<'a> {
         ensures status { result.status ≡ status }
         ensures none { result.file ≡ None }
     {
-        StoreEnd { status, file: None }
+        StoreEnd {
+            status,
+            file: None,
+            run: None,
+        }
     }
 
-    /// It ended with this status, over this file.
-    pub(crate) fn over(status: u8, file: StoreFile<'a>) -> StoreEnd<'a>
+    /// It ended with this status, over this file, after this run, if its jobs were counted.
+    pub(crate) fn over(status: u8, file: StoreFile<'a>, run: Option<PastRun>) -> StoreEnd<'a>
         ensures status { result.status ≡ status }
         ensures over { result.file ≡ Some file.entry }
+        ensures run { result.run ≡ run }
     {
         let file = Some(file);
-        StoreEnd { status, file }
+        StoreEnd { status, file, run }
     }
 }
 

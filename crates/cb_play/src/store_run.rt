@@ -1,8 +1,8 @@
 //! Workers over a store in a file.
-ghost use Rattle.std.specs.Prelude.{◌≡◌, ◌*◌, false, IfOk};
+ghost use Rattle.std.specs.Prelude.{◌≡◌, ◌*◌, false, Err, IfOk, None};
 ghost use Rattle.cb_commit.specs.Stores.{IsOf};
-ghost use Rattle.cb_jobs.specs.Outcomes.{PrintsCounted};
-ghost use Rattle.cb_run.specs.Runs.{IsCounted};
+ghost use Rattle.cb_jobs.specs.Outcomes.{PrintsCounted, PrintsRun};
+ghost use Rattle.cb_run.specs.Runs.{IsCounted, cut_off_of};
 ghost use Rattle.cb_play.specs.StoreRuns.{IsStoreRun, PrintsOver, PrintsReached, all_jobs};
 
 use crate::store_file::{StoreEnd, StoreFile};
@@ -10,7 +10,7 @@ use cb_commit::Store;
 use cb_console::{Config, print_refusal, run_settings};
 use cb_jobs::{Ending, Gate, Turn, Watch, print_run};
 use cb_page::{ClientNo, Incarnation, Limits};
-use cb_run::{of_shelf, run_on_watched};
+use cb_run::{PastRun, RunEnd, of_shelf, run_on_watched};
 use cb_shelf::{Life, Shelf};
 use cb_station::{Office, Station};
 use sqlite::{Alter, Connection};
@@ -33,10 +33,19 @@ impl Gate for AnyTime {
     fn after_commit(&self, _client: ClientNo, _job: u64) {}
 }
 
-/// Runs workers under a configuration's text, over the store in a file, which is made if it isn't
-/// there. It says on `out` how many jobs were committed and the sum of the counters, else on `err`
-/// why not; the answer has the program's status, and which file was opened. Meanwhile `watch` is
-/// told how far it is.
+/// What was said of a run over a store: the status, and, where its jobs were counted, that it was
+/// over.
+#[derive(Drop)]
+struct Printed {
+    status: u8,
+    run: Option<PastRun>,
+}
+
+/// Runs workers under a configuration's text, over the store in a file, which is made where it
+/// isn't there. It says on `out` how many jobs were committed and the sum of the counters, else on
+/// `err` why not; the answer has the program's status, and which file was opened. Fewer than all
+/// jobs are told as committed only if the answer says that this run was cut off. Meanwhile `watch`
+/// is told how far it is.
 ///
 /// The file isn't opened before the configuration was checked. That the store is closed at the end
 /// is said by no clause: what was committed is on disk before that, beside the file if not in it.
@@ -94,7 +103,7 @@ where
         Ok(conn) => conn,
         Err(fault) => {
             let status = print_run(Err(of_shelf(fault)), out, err)?;
-            return Ok(StoreEnd::over(status, file));
+            return Ok(StoreEnd::over(status, file, None));
         }
     };
     let alloc = rt.alloc();
@@ -103,8 +112,9 @@ where
     );
     // What is still in the log beside the file, the next open finds.
     let _ = conn.close();
-    let status = printed?;
-    Ok(StoreEnd::over(status, file))
+    let ended = printed?;
+    let Printed { status, run } = ended;
+    Ok(StoreEnd::over(status, file, run))
 }
 
 /// Runs workers over the store in a database, and gives the connection back.
@@ -118,7 +128,7 @@ fn run_over<R, S, G, W, O, E>(
     watch: &mut W,
     out: &mut O,
     err: &mut E,
-) -> (io::Result<u8>, Connection<S>)
+) -> (io::Result<Printed>, Connection<S>)
 where
     R: Threads + Wait + Clock + Sync,
     S: Alter,
@@ -128,8 +138,8 @@ where
     E: Write,
     requires { config.now.limits.keep_write ≡ false }
     ensures path { file.new.path.now ≡ file.old.path.now }
-    ensures prints { IfOk result.0 (λ status. PrintsReached file.new.reach
-        (IsCounted S.Store (all_jobs config.now) result.1) status
+    ensures prints { IfOk result.0 (λ printed. PrintsReached file.new.reach
+        (IsCounted S.Store (all_jobs config.now) printed.run result.1) printed.status
         (O.contents out.old) (O.contents out.new) (E.contents err.old) (E.contents err.new)) }
 {
     match file.lay_out(alloc, conn, &config.limits) {
@@ -139,7 +149,7 @@ where
             );
             (printed, shelf.close())
         }
-        Err((fault, conn)) => (print_run(Err(of_shelf(fault)), out, err), conn),
+        Err((fault, conn)) => (refuse(of_shelf(fault), out, err), conn),
     }
 }
 
@@ -154,7 +164,7 @@ fn run_in<R, S, G, W, O, E>(
     watch: &mut W,
     out: &mut O,
     err: &mut E,
-) -> io::Result<u8>
+) -> io::Result<Printed>
 where
     R: Threads + Wait + Clock + Sync,
     S: Alter,
@@ -165,19 +175,19 @@ where
     requires plain { config.now.limits.keep_write ≡ false }
     requires shelf { shelf.old.limits ≡ config.now.limits }
     ensures path { file.new.path.now ≡ file.old.path.now }
-    ensures prints { IfOk result (λ status. PrintsReached file.new.reach
-        (IsCounted S.Store (all_jobs config.now) shelf.new.conn) status
+    ensures prints { IfOk result (λ printed. PrintsReached file.new.reach
+        (IsCounted S.Store (all_jobs config.now) printed.run shelf.new.conn) printed.status
         (O.contents out.old) (O.contents out.new) (E.contents err.old) (E.contents err.new)) }
 {
     let life = match file.begin_life(shelf) {
         Ok(life) => life,
-        Err(fault) => return print_run(Err(of_shelf(fault)), out, err),
+        Err(fault) => return refuse(of_shelf(fault), out, err),
     };
     match file.read(alloc, shelf) {
         Ok(store) => run_from(
             threads, alloc, config, store, life, shelf, gate, watch, out, err,
         ),
-        Err(fault) => print_run(Err(of_shelf(fault)), out, err),
+        Err(fault) => refuse(of_shelf(fault), out, err),
     }
 }
 
@@ -194,7 +204,7 @@ fn run_from<R, S, G, W, O, E>(
     watch: &mut W,
     out: &mut O,
     err: &mut E,
-) -> io::Result<u8>
+) -> io::Result<Printed>
 where
     R: Threads + Wait + Clock + Sync,
     S: Alter,
@@ -204,17 +214,72 @@ where
     E: Write,
     requires plain { config.now.limits.keep_write ≡ false }
     requires store { IsOf config.now.limits store }
-    ensures { IfOk result (λ status.
-        PrintsCounted (IsCounted S.Store (all_jobs config.now) shelf.new.conn) status
+    ensures { IfOk result (λ printed. PrintsCounted
+        (IsCounted S.Store (all_jobs config.now) printed.run shelf.new.conn) printed.status
         (O.contents out.old) (O.contents out.new) (E.contents err.old) (E.contents err.new)) }
 {
     let (limits, jobs) = (&config.limits, config.jobs);
     match office_over(alloc, limits, store, life.floor(), jobs, watch) {
-        Ok(office) => run_on_watched(
-            threads, alloc, limits, &office, shelf, jobs, gate, watch, out, err,
+        Ok(office) => run_at(
+            threads, alloc, config, &office, shelf, gate, watch, out, err,
         ),
-        Err(ending) => print_run(Err(ending), out, err),
+        Err(ending) => refuse(ending, out, err),
     }
+}
+
+/// Runs workers in an office over the store in a shelf. Once the run is over the office may go.
+fn run_at<R, S, G, W, O, E>(
+    threads: &R,
+    alloc: Global,
+    config: &Config,
+    office: &Office,
+    shelf: &mut Shelf<S>,
+    gate: &G,
+    watch: &mut W,
+    out: &mut O,
+    err: &mut E,
+) -> io::Result<Printed>
+where
+    R: Threads + Wait + Clock + Sync,
+    S: Alter,
+    G: Gate + Sync,
+    W: Watch,
+    O: Write,
+    E: Write,
+    ensures { IfOk result (λ printed. PrintsCounted
+        (IsCounted S.Store (all_jobs config.now) printed.run shelf.new.conn) printed.status
+        (O.contents out.old) (O.contents out.new) (E.contents err.old) (E.contents err.new)) }
+{
+    let (limits, jobs) = (&config.limits, config.jobs);
+    let ended = run_on_watched(
+        threads, alloc, limits, office, shelf, jobs, gate, watch, out, err,
+    )?;
+    Ok(printed_of(ended))
+}
+
+/// What is left of a run that ended so, once its office is gone.
+fn printed_of(ended: RunEnd<'_>) -> Printed
+    ensures status { result.status ≡ ended.entry.status }
+    ensures run { result.run ≡ cut_off_of ended.entry.over }
+{
+    let RunEnd { status, over } = ended;
+    match over {
+        Some(over) => Printed {
+            status,
+            run: Some(over.into_past()),
+        },
+        None => Printed { status, run: None },
+    }
+}
+
+/// Says why nothing was counted.
+fn refuse<O: Write, E: Write>(ending: Ending, out: &mut O, err: &mut E) -> io::Result<Printed>
+    ensures prints { IfOk result (λ printed. PrintsRun (Err ending) printed.status
+        (O.contents out.old) (O.contents out.new) (E.contents err.old) (E.contents err.new)) }
+    ensures none { IfOk result (λ printed. printed.run ≡ None) }
+{
+    let status = print_run(Err(ending), out, err)?;
+    Ok(Printed { status, run: None })
 }
 
 /// An office over a store, in a life from this floor on, that each client's work will use; `watch`

@@ -1,8 +1,8 @@
--- When a run is over, and whether it was cut off. This project's rules.
-use Rattle.std.specs.Prelude.{◌≡◌, Bool, true, None, Ok}
+-- When a run is over, at which office, and whether it was cut off. This project's rules.
+use Rattle.std.specs.Prelude.{◌≡◌, ℕ, Bool, true, None, Ok}
 use Rattle.cb_hands.specs.Hands.{HandState}
 use Rattle.cb_protocol.specs.Flush.{next_batch}
-use Rattle.cb_station.specs.Flags.{is_cut_off, is_over}
+use Rattle.cb_station.specs.Flags.{is_over}
 use Rattle.cb_station.specs.Stations.{IsStation, StationState, server_of}
 use Rattle.cb_worker.specs.Entering.{LeavesSome}
 
@@ -17,18 +17,15 @@ pub record IsOver (station : StationState) : Type 0 where
   pub over : is_over station.flags ≡ true
   pub written : IsWritten station
 
--- while nobody had the lock such a station lay there, and it was cut off, or not
-abbrev pub EndedAs : (cut_off : Bool) → Type 0
-EndedAs cut_off = (station : StationState) × IsOver station
-    × (is_cut_off station.flags ≡ cut_off)
+-- where a value lies that is lent; while it is lent no other one lies there
+abbrev pub Place : Type 0
+Place = ℕ × ℕ
 
--- the run was over
-abbrev pub WasOver : Type 0
-WasOver = (cut_off : Bool) × EndedAs cut_off
-
--- The run was over, and cut off: the station was halted, or calls of `work` were still to end.
-abbrev pub WasCutOff : Type 0
-WasCutOff = EndedAs true
+-- At which office a run was over, and whether it was cut off then: the station was halted, or calls
+-- of `work` were still to end.
+pub record OverState : Type 0 where
+  pub office : Place
+  pub cut_off : Bool
 
 -- some worker's hand left some station of which all holds that always does, as `leave` says it;
 -- neither which worker nor which station is named

@@ -1,6 +1,7 @@
 -- What a report of a written batch does to a station. This project's rules.
-use Rattle.std.specs.Prelude.{◌≡◌, ◌+◌, ℕ, true, false, max, Option, IfSome}
+use Rattle.std.specs.Prelude.{◌≡◌, ◌↔◌, ◌+◌, ◌<◌, ℕ, true, false, max, Option, IfSome, IsSome}
 use Rattle.cb_mailboxes.specs.Dispatching.{Everybody, Posts}
+use Rattle.cb_page.specs.Numbers.{max_number}
 use Rattle.cb_protocol.specs.AnyMessages.{ReachesDisk}
 use Rattle.cb_protocol.specs.Flush.{can_flush}
 use Rattle.cb_station.specs.Stations.{IsUnchanged, StationState, forgot, mailbox_of, server_of}
@@ -19,7 +20,8 @@ pub record ReportsUpTo (number : ℕ) (old new : StationState) : Type 0 where
   pub flags : reported.flags ≡ old.flags
   pub forgets : new ≡ forgot reported number
 
--- the number that the station's next commit has, where one is told
+-- the number that the station's next commit has; none only if none is left
 abbrev pub IsNextOf : StationState → Option ℕ → Type 0
 IsNextOf station next =
     IfSome next (λ number. number ≡ (server_of station).store.last_commit + 1)
+    × (IsSome next ↔ ((server_of station).store.last_commit < max_number))

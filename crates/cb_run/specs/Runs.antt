@@ -1,5 +1,5 @@
 -- How a run of workers ends, and what its counts are. This project's rules.
-use Rattle.std.specs.Prelude.{◌≡◌, ◌≤◌, ◌⊎◌, ◌==◌, ◌&&◌, ◌||◌, ℕ, Bool, nat_lt}
+use Rattle.std.specs.Prelude.{◌≡◌, ◌≤◌, ◌==◌, ◌&&◌, ◌||◌, ℕ, Bool, true, nat_lt}
 use Rattle.std.specs.Prelude.{Option, Some, None, Result, Ok, Err, IsTrue}
 use Rattle.cb_client.specs.declared.client_fault.ClientFault.TheVariants as client
 use Rattle.cb_commit.specs.Stores.{StoreState}
@@ -12,7 +12,7 @@ use Rattle.cb_jobs.specs.declared.printing.Counted.{Counted}
 use Rattle.cb_shelf.specs.Reading.{Holds}
 use Rattle.cb_sql.specs.declared.fault.ShelfFault.{ShelfFault}
 use Rattle.cb_sql.specs.declared.fault.ShelfFault.TheVariants as shelf
-use Rattle.cb_run.specs.Ends.{WasCutOff, WasOver}
+use Rattle.cb_run.specs.Ends.{OverState}
 use Rattle.cb_worker.specs.declared.worker_fault.WorkerFault.{WorkerFault}
 use Rattle.cb_worker.specs.declared.worker_fault.WorkerFault.TheVariants as worker
 use Rattle.sqlite.specs.Effect.{Database}
@@ -51,18 +51,27 @@ ending_of_run (Ok done) None = Ok done
 abbrev pub adds_up : (committed all : ℕ) → (cut_off : Bool) → Bool
 adds_up committed all cut_off = (committed == all) || (cut_off && nat_lt committed all)
 
+-- whether the run was cut off that was over so, if one was
+abbrev pub cut_off_of : Option OverState → Option Bool
+cut_off_of (Some over) = Some over.cut_off
+cut_off_of None = None
+
+-- a run was over, cut off or not, and so many committed jobs are all of it, or fewer if it was cut
+-- off
+abbrev pub AreAll : (all : ℕ) → (cut_off : Option Bool) → (committed : ℕ) → Type 0
+AreAll all (Some cut_off) committed = adds_up committed all cut_off ≡ true
+AreAll all None committed = ⊥
+
 -- the sum of the counters in the store that the tables hold
 abbrev pub IsSumIn : Database → (sum : ℕ) → Type 0
 IsSumIn db sum = (tables : _) × (store : StoreState) × Holds tables db store
     × (sum ≡ sum_of_counters store)
 
--- All jobs were committed, fewer only where the run was cut off; it was over, with each commit on
--- disk; and the sum is that of the tables as they are, unless the disk failed or the connection was
--- closed.
-pub record IsCounted {S : Type 0} (g : Ghosts S) (all : ℕ) (after : Held S) (counted : Counted)
-    : Type 0 where
+-- All jobs were committed, fewer only if the run was cut off, which was over so; and the sum is that
+-- of the tables as they are, unless the disk failed or the connection was closed.
+pub record IsCounted {S : Type 0} (g : Ghosts S) (all : ℕ) (cut_off : Option Bool) (after : Held S)
+    (counted : Counted) : Type 0 where
   pub few : counted.committed ≤ all
-  pub exact : (counted.committed ≡ all) ⊎ WasCutOff
-  pub over : WasOver
+  pub exact : AreAll all cut_off counted.committed
   pub summed : HasCleanDisk (state g after) → IsTrue (state g after).is_open
       → IsSumIn (state g after).now counted.sum

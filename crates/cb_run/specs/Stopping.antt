@@ -1,6 +1,6 @@
 -- Why a flusher stops, and what it does next.
 use Rattle.std.specs.Prelude.{◌≡◌, ◌==◌, ◌-◌, ◌&&◌, ◌↔◌, if◌then◌else◌, not, ℕ, Option, Some, None}
-use Rattle.std.specs.Prelude.{IfSome}
+use Rattle.std.specs.Prelude.{IfSome, ⊤}
 use Rattle.cb_commit.specs.Batches.{BatchState}
 use Rattle.cb_server_state.specs.Commits.{batch_of}
 use Rattle.cb_station.specs.Flags.{is_cut_off}
@@ -13,7 +13,7 @@ use Rattle.cb_run.specs.declared.flusher.CountedStop.{CountedStop}
 use Rattle.cb_run.specs.declared.flusher.FlushStop.{FlushStop}
 use Rattle.cb_run.specs.declared.over.Next.{Next}
 use Rattle.cb_run.specs.declared.over.Next.TheVariants as next
-use Rattle.cb_run.specs.Ends.{IsOver}
+use Rattle.cb_run.specs.Ends.{IsOver, Place}
 
 -- There was no memory for a batch; or one is still to be written, of which the shape is blamed
 -- exactly where it isn't that of the tables.
@@ -37,5 +37,10 @@ tries_left counted last left =
 -- or not
 abbrev pub IsNext : StationState → Next → Type 0
 IsNext station (next.Batch batch) = next_batch (server_of station) ≡ Some (batch_of batch)
-IsNext station (next.Over cut_off) =
-    IsOver station × (is_cut_off station.flags ≡ cut_off)
+IsNext station (next.Over over) =
+    IsOver station × (is_cut_off station.flags ≡ over.cut_off)
+
+-- if it ends, that says that the run was over at the office which lies there
+abbrev pub EndsAt : (office : Place) → Next → Type 0
+EndsAt office (next.Batch batch) = ⊤
+EndsAt office (next.Over over) = over.office ≡ office

@@ -8,7 +8,9 @@ ghost use Rattle.cb_station.specs.Flags.{is_over};
 ghost use Rattle.cb_station.specs.Telling.{Tells};
 ghost use Rattle.cb_station.specs.Stations.{IsUnchanged, StationState};
 ghost use Rattle.cb_run.specs.Ends.{IsWritten};
+ghost use Rattle.cb_run.specs.Pacing.{awaited_after};
 ghost use Rattle.cb_run.specs.Reporting.{ReportsUpTo};
+ghost use Rattle.cb_run.specs.Stopping.{EndsAt};
 ghost use Rattle.cb_shelf.specs.Flushing.{WritesOne, WritesOrStays};
 ghost use Rattle.cb_sql.specs.Writing.{Fits, Wrote};
 
@@ -55,19 +57,20 @@ fn wait_for_more<'a, R: Wait, W: Watch>(
 /// The next batch; or that the run is over, once nothing is left to write and no call of `work`
 /// commits any more. The watch is told each time that it is waited for. Who is about to commit is
 /// waited for as the pace says.
-pub(crate) fn next_batch<R: Wait + Clock, W: Watch>(
+pub(crate) fn next_batch<'a, R: Wait + Clock, W: Watch>(
     rt: &R,
     alloc: Global,
-    office: &Office,
+    office: &'a Office,
     watch: &mut W,
     pace: &Pace,
-) -> Result<Next, ShelfFault>
-    ensures { IfErr result (λ fault. fault ≡ ShelfFault.Memory) }
+) -> Result<Next<'a>, ShelfFault>
+    ensures office { IfOk result (EndsAt office.entry.ref_ptr) }
+    ensures fault { IfErr result (λ fault. fault ≡ ShelfFault.Memory) }
 {
     let mut station = office.lock_to_wait(rt);
     for _ in rt.forever() {
         station = await_others(rt, office, station, pace);
-        if let Some(next) = next_at(alloc, &station) {
+        if let Some(next) = next_at(alloc, office, &station) {
             return next;
         }
         station = wait_for_more(rt, office, station, watch);
@@ -123,10 +126,13 @@ pub(crate) fn flush_batch<R: Wait + Clock, S: Alter, W: Watch>(
     watch: &mut W,
     pace: &mut Pace,
     batch: &Batch,
-) -> Result<(), ShelfFault>
+) -> Result<Reported, ShelfFault>
+    ensures number { IfOk result (λ reported. reported.number ≡ batch.now.number) }
     ensures told { OnOk result (W.tells watch.old batch.now.number watch.new) }
     ensures untold { OnErr result (watch.new ≡ watch.old) }
     ensures paced { OnOk result (pace.new.reported ≡ Some batch.now.number) }
+    ensures awaited { IfOk result (λ reported. pace.new.awaited
+        ≡ awaited_after pace.old.reported batch.now.number reported.next) }
     ensures limits { shelf.new.limits ≡ shelf.old.limits }
     ensures fits { OnOk result (Fits shelf.old.limits batch.now) }
     ensures shape { (result ≡ Err ShelfFault.Shape) ↔ ¬ Fits shelf.old.limits batch.now }
@@ -144,5 +150,5 @@ pub(crate) fn flush_batch<R: Wait + Clock, S: Alter, W: Watch>(
     let took = time_since(rt, start);
     pace.report(reported.number(), reported.next(), took);
     watch.flushed(reported.number());
-    Ok(())
+    Ok(reported)
 }

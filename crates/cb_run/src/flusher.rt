@@ -1,5 +1,5 @@
 //! The loop, its stops, and whether it wrote before one.
-ghost use Rattle.std.specs.Prelude.{◌≡◌, IfErr, IfSome, OnErr, OnOk};
+ghost use Rattle.std.specs.Prelude.{◌≡◌, IfErr, IfOk, IfSome, OnErr, OnOk};
 ghost use Rattle.sqlite.specs.Held.{state};
 ghost use Rattle.sqlite.specs.State.{Survives};
 ghost use Rattle.cb_run.specs.Flushing.{LeavesFirst, LeavesSome, MadeFirst, MadeSome, WritesFirst};
@@ -44,13 +44,14 @@ impl CountedStop {
 }
 
 /// As [`crate::flush_loop_watched`]; a stop tells besides whether a batch was written before.
-pub(crate) fn flush_counted<R: Wait + Clock, S: Alter, W: Watch>(
+pub(crate) fn flush_counted<'a, R: Wait + Clock, S: Alter, W: Watch>(
     rt: &R,
     alloc: Global,
-    office: &Office,
+    office: &'a Office,
     shelf: &mut Shelf<S>,
     watch: &mut W,
-) -> Result<Over, CountedStop>
+) -> Result<Over<'a>, CountedStop>
+    ensures office { IfOk result (λ over. over.office ≡ office.entry.ref_ptr) }
     ensures limits { shelf.new.limits ≡ shelf.old.limits }
     ensures stops { IfErr result (λ counted. Stops shelf.old.limits counted.stop) }
     ensures written { OnOk result (WritesSome S.Store shelf.old.limits shelf.old.conn
@@ -83,14 +84,15 @@ pub(crate) fn flush_counted<R: Wait + Clock, S: Alter, W: Watch>(
 }
 
 /// As [`crate::flush_again_watched`]; a stop tells besides whether the loop wrote a batch before.
-pub(crate) fn flush_counted_again<R: Wait + Clock, S: Alter, W: Watch>(
+pub(crate) fn flush_counted_again<'a, R: Wait + Clock, S: Alter, W: Watch>(
     rt: &R,
     alloc: Global,
-    office: &Office,
+    office: &'a Office,
     shelf: &mut Shelf<S>,
     watch: &mut W,
     stop: FlushStop,
-) -> Result<Over, CountedStop>
+) -> Result<Over<'a>, CountedStop>
+    ensures office { IfOk result (λ over. over.office ≡ office.entry.ref_ptr) }
     ensures limits { shelf.new.limits ≡ shelf.old.limits }
     ensures stops { IfErr result (λ counted. Stops shelf.old.limits counted.stop) }
     ensures held { OnOk result (IfSome stop.batch (Fits shelf.old.limits)) }

@@ -2,7 +2,6 @@
 ghost use Rattle.std.specs.Prelude.{◌≡◌, IfErr, IfOk, IfSome, OnErr, OnOk};
 ghost use Rattle.sqlite.specs.Held.{state};
 ghost use Rattle.sqlite.specs.State.{Survives};
-ghost use Rattle.cb_run.specs.Ends.{EndedAs};
 ghost use Rattle.cb_run.specs.Flushing.{LeavesFirst, LeavesSome, MadeFirst, MadeSome, WritesFirst};
 ghost use Rattle.cb_run.specs.Flushing.{WritesSome};
 ghost use Rattle.cb_run.specs.Stopping.{Stops};
@@ -24,16 +23,16 @@ use std::time::Clock;
 /// office is closed.
 ///
 /// It holds no lock while it writes. No contract says which batches those are, since it takes the
-/// lock itself. If it ends well, it returns an [`Over`], which says that this was so at a moment
-/// while nobody had the lock, and whether the run was cut off then.
-pub fn flush_loop<R: Wait + Clock, S: Alter>(
+/// lock itself. If it ends well, it returns an [`Over`], which says that this was so at this
+/// office, at a moment while nobody had the lock, and whether the run was cut off then.
+pub fn flush_loop<'a, R: Wait + Clock, S: Alter>(
     rt: &R,
     alloc: Global,
-    office: &Office,
+    office: &'a Office,
     shelf: &mut Shelf<S>,
-) -> Result<Over, FlushStop>
+) -> Result<Over<'a>, FlushStop>
     ensures limits { shelf.new.limits ≡ shelf.old.limits }
-    ensures over { IfOk result EndedAs }
+    ensures office { IfOk result (λ over. over.office ≡ office.entry.ref_ptr) }
     ensures stops { IfErr result (Stops shelf.old.limits) }
     ensures written { OnOk result (WritesSome S.Store shelf.old.limits shelf.old.conn
         shelf.new.conn) }
@@ -47,15 +46,15 @@ pub fn flush_loop<R: Wait + Clock, S: Alter>(
 
 /// As [`flush_loop`]; `watch` is told of each batch once it is reported, and when the flusher
 /// waits.
-pub fn flush_loop_watched<R: Wait + Clock, S: Alter, W: Watch>(
+pub fn flush_loop_watched<'a, R: Wait + Clock, S: Alter, W: Watch>(
     rt: &R,
     alloc: Global,
-    office: &Office,
+    office: &'a Office,
     shelf: &mut Shelf<S>,
     watch: &mut W,
-) -> Result<Over, FlushStop>
+) -> Result<Over<'a>, FlushStop>
     ensures limits { shelf.new.limits ≡ shelf.old.limits }
-    ensures over { IfOk result EndedAs }
+    ensures office { IfOk result (λ over. over.office ≡ office.entry.ref_ptr) }
     ensures stops { IfErr result (Stops shelf.old.limits) }
     ensures written { OnOk result (WritesSome S.Store shelf.old.limits shelf.old.conn
         shelf.new.conn) }
@@ -65,25 +64,22 @@ pub fn flush_loop_watched<R: Wait + Clock, S: Alter, W: Watch>(
         (MadeSome S.Store shelf.old.conn) }
 {
     match flush_counted(rt, alloc, office, shelf, watch) {
-        Ok(over) => {
-            let _known = over.is_cut_off();
-            Ok(over)
-        }
+        Ok(over) => Ok(over),
         Err(counted) => Err(counted.into_stop()),
     }
 }
 
 /// Writes the batch of a stop first, if there is one, and goes on as [`flush_loop`]. If it ends
 /// well, that batch fits, so it wasn't passed over.
-pub fn flush_again<R: Wait + Clock, S: Alter>(
+pub fn flush_again<'a, R: Wait + Clock, S: Alter>(
     rt: &R,
     alloc: Global,
-    office: &Office,
+    office: &'a Office,
     shelf: &mut Shelf<S>,
     stop: FlushStop,
-) -> Result<Over, FlushStop>
+) -> Result<Over<'a>, FlushStop>
     ensures limits { shelf.new.limits ≡ shelf.old.limits }
-    ensures over { IfOk result EndedAs }
+    ensures office { IfOk result (λ over. over.office ≡ office.entry.ref_ptr) }
     ensures stops { IfErr result (Stops shelf.old.limits) }
     ensures held { OnOk result (IfSome stop.batch (Fits shelf.old.limits)) }
     ensures written { OnOk result (WritesFirst S.Store shelf.old.limits stop.batch shelf.old.conn
@@ -97,16 +93,16 @@ pub fn flush_again<R: Wait + Clock, S: Alter>(
 }
 
 /// As [`flush_again`]; `watch` is told as by [`flush_loop_watched`].
-pub fn flush_again_watched<R: Wait + Clock, S: Alter, W: Watch>(
+pub fn flush_again_watched<'a, R: Wait + Clock, S: Alter, W: Watch>(
     rt: &R,
     alloc: Global,
-    office: &Office,
+    office: &'a Office,
     shelf: &mut Shelf<S>,
     watch: &mut W,
     stop: FlushStop,
-) -> Result<Over, FlushStop>
+) -> Result<Over<'a>, FlushStop>
     ensures limits { shelf.new.limits ≡ shelf.old.limits }
-    ensures over { IfOk result EndedAs }
+    ensures office { IfOk result (λ over. over.office ≡ office.entry.ref_ptr) }
     ensures stops { IfErr result (Stops shelf.old.limits) }
     ensures held { OnOk result (IfSome stop.batch (Fits shelf.old.limits)) }
     ensures written { OnOk result (WritesFirst S.Store shelf.old.limits stop.batch shelf.old.conn
@@ -117,10 +113,7 @@ pub fn flush_again_watched<R: Wait + Clock, S: Alter, W: Watch>(
         (MadeFirst S.Store stop.batch shelf.old.conn) }
 {
     match flush_counted_again(rt, alloc, office, shelf, watch, stop) {
-        Ok(over) => {
-            let _known = over.is_cut_off();
-            Ok(over)
-        }
+        Ok(over) => Ok(over),
         Err(counted) => Err(counted.into_stop()),
     }
 }

@@ -1,7 +1,6 @@
 //! How the clients' parts of a run ended.
-ghost use Rattle.std.specs.Prelude.{◌≡◌, ◌≤◌, ◌+◌, IfErr, IfOk, OnOk, Ok, Err, None, true};
+ghost use Rattle.std.specs.Prelude.{◌≡◌, ◌≤◌, ◌+◌, IfErr, IfOk, OnOk, Ok, Err, None};
 ghost use Rattle.cb_jobs.specs.Outcomes.{lower};
-ghost use Rattle.cb_run.specs.Ends.{WasCutOff, WasOver};
 ghost use Rattle.cb_run.specs.Parts.{quiet_parts};
 ghost use Rattle.cb_run.specs.Runs.{ending_of_run, of_client};
 
@@ -70,12 +69,13 @@ impl<N> Parts<N> {
     /// How the run ended of so many clients whose flusher ended so: by the first fault, as
     /// [`of_run`] says; well, only where as many parts as there are clients had nothing to tell. Where
     /// fewer had, and none told of a fault, a worker is at fault.
-    pub(crate) fn end(
+    pub(crate) fn end<'a>(
         &self,
-        flushed: Result<Over, ShelfFault>,
+        flushed: Result<Over<'a>, ShelfFault>,
         clients: u16,
-    ) -> Result<RunOver, Ending>
-        ensures faults { IfErr (ending_of_run flushed self.now.faults.told)
+    ) -> Result<RunOver<'a>, Ending>
+        ensures over { IfOk result (λ over. flushed.entry ≡ Ok over) }
+        ensures faults { IfErr (ending_of_run flushed.entry self.now.faults.told)
             (λ ending. result ≡ Err ending) }
         ensures quiet { OnOk result (clients ≤ self.now.quiet) }
     {
@@ -87,29 +87,51 @@ impl<N> Parts<N> {
     }
 }
 
-/// Says that a run was over, and that as many parts as it has clients had nothing to tell. Only
-/// `Parts::end` makes one, of the [`Over`] that the flusher returned, and nobody can copy it. In
-/// contracts it is whether the run was cut off then.
+/// Says that a run was over at an office, and that as many parts as it has clients had nothing to
+/// tell. Only `Parts::end` makes one, of the [`Over`] that the flusher returned, and nobody can
+/// copy it. In contracts it is that [`Over`].
 #[derive(Drop)]
-pub struct RunOver {
-    over: Over,
+pub struct RunOver<'a> {
+    over: Over<'a>,
 }
 
-impl Model for RunOver {
-    ghost use Rattle.std.specs.Prelude.{Bool};
+impl<'a> Model for RunOver<'a> {
+    ghost use Rattle.cb_run.specs.Ends.{OverState};
 
-    ghost Value = { Bool };
+    ghost Value = { OverState };
 
     ghost view = { λ over. over.over };
 }
 
-impl RunOver {
+impl RunOver<'_> {
     /// Whether the run was cut off as it ended.
     pub fn is_cut_off(&self) -> bool
-        ensures value { result ≡ self.now }
-        ensures over { WasOver }
-        ensures cut_off { result ≡ true → WasCutOff }
+        ensures { result ≡ self.now.cut_off }
     {
         self.over.is_cut_off()
     }
+
+    /// What can still be said of the run once its office may be gone.
+    pub fn into_past(self) -> PastRun
+        ensures { result ≡ self.entry.cut_off }
+    {
+        PastRun {
+            cut_off: self.over.is_cut_off(),
+        }
+    }
+}
+
+/// Says that a run was over, at an office that may be gone. Only [`RunOver::into_past`] makes one,
+/// and nobody can copy it. In contracts it is whether the run was cut off then.
+#[derive(Drop)]
+pub struct PastRun {
+    cut_off: bool,
+}
+
+impl Model for PastRun {
+    ghost use Rattle.std.specs.Prelude.{Bool};
+
+    ghost Value = { Bool };
+
+    ghost view = { λ past. past.cut_off };
 }

@@ -2,7 +2,6 @@
 ghost use Rattle.std.specs.Prelude.{◌≡◌, IfOk, OnErr, OnOk};
 ghost use Rattle.sqlite.specs.Held.{state};
 ghost use Rattle.sqlite.specs.State.{Survives};
-ghost use Rattle.cb_run.specs.Ends.{EndedAs};
 ghost use Rattle.cb_run.specs.Flushing.{MadeAtLast, Tries, WritesAtLast};
 ghost use Rattle.cb_run.specs.Stopping.{number_of, tries_left};
 
@@ -53,41 +52,24 @@ fn pause(left: u64) -> Duration {
     }
 }
 
-/// Runs the flusher. A batch that is refused is tried again, three times in all, and so is one for
-/// which there is no memory. Then the office is halted, and the last fault returned. A batch that
-/// is written in between restarts the count. If it ends well, it returns that the run is over.
-pub fn flush_in_tries<R: Wait + Clock, S: Alter, W: Watch>(
-    rt: &R,
-    alloc: Global,
-    office: &Office,
-    shelf: &mut Shelf<S>,
-    watch: &mut W,
-) -> Result<Over, ShelfFault>
-    ensures over { IfOk result EndedAs }
-    ensures limits { shelf.new.limits ≡ shelf.old.limits }
-    ensures written { OnOk result (WritesAtLast S.Store shelf.old.limits shelf.old.conn
-        shelf.new.conn) }
-    ensures left { OnErr result (Tries S.Store shelf.old.limits shelf.old.conn shelf.new.conn) }
-    ensures crash { Survives (state S.Store shelf.old.conn) (state S.Store shelf.new.conn)
-        (MadeAtLast S.Store shelf.old.limits shelf.old.conn) }
-{
-    match flush_to_end(rt, alloc, office, shelf, watch) {
-        Ok(over) => {
-            let _known = over.is_cut_off();
-            Ok(over)
-        }
-        Err(fault) => Err(fault),
-    }
+/// The office that a flusher works for. Of a reference alone a loop's invariant has no address.
+#[derive(Drop)]
+struct Desk<'a> {
+    office: &'a Office,
 }
 
-/// As [`flush_in_tries`]; who ends well holds that the run is over.
-pub(crate) fn flush_to_end<R: Wait + Clock, S: Alter, W: Watch>(
+/// Runs the flusher. A batch that is refused is tried again, three times in all, and so is one for
+/// which there is no memory; then the office is halted, and the last fault answered. A batch that
+/// is written in between ends the count. If it ends well, it returns that the run is over at this
+/// office.
+pub fn flush_in_tries<'a, R: Wait + Clock, S: Alter, W: Watch>(
     rt: &R,
     alloc: Global,
-    office: &Office,
+    office: &'a Office,
     shelf: &mut Shelf<S>,
     watch: &mut W,
-) -> Result<Over, ShelfFault>
+) -> Result<Over<'a>, ShelfFault>
+    ensures office { IfOk result (λ over. over.office ≡ office.entry.ref_ptr) }
     ensures limits { shelf.new.limits ≡ shelf.old.limits }
     ensures written { OnOk result (WritesAtLast S.Store shelf.old.limits shelf.old.conn
         shelf.new.conn) }
@@ -95,7 +77,8 @@ pub(crate) fn flush_to_end<R: Wait + Clock, S: Alter, W: Watch>(
     ensures crash { Survives (state S.Store shelf.old.conn) (state S.Store shelf.new.conn)
         (MadeAtLast S.Store shelf.old.limits shelf.old.conn) }
 {
-    let mut stopped = flush_counted(rt, alloc, office, shelf, watch);
+    let desk = Desk { office };
+    let mut stopped = flush_counted(rt, alloc, desk.office, shelf, watch);
     let mut left = TRIES;
     let mut last = 0;
     for _ in rt.forever() {
@@ -106,12 +89,12 @@ pub(crate) fn flush_to_end<R: Wait + Clock, S: Alter, W: Watch>(
         left = tries_left(&counted, last, left);
         let stop = counted.into_stop();
         if left == 0 {
-            office.halt(rt);
+            desk.office.halt(rt);
             return Err(stop.fault);
         }
         last = batch_number(&stop);
         thread::sleep(rt, pause(left));
-        stopped = flush_counted_again(rt, alloc, office, shelf, watch, stop);
+        stopped = flush_counted_again(rt, alloc, desk.office, shelf, watch, stop);
     }
     unreachable!()
 }

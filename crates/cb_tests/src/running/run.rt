@@ -8,11 +8,12 @@ use crate::running::work::{Deed, Outcome, Work, opening};
 use cb_admission::AdmissionWindow;
 use cb_jobs::Watch;
 use cb_page::{ClientNo, CommitNo, Limits};
-use cb_run::run_on_watched;
+use cb_run::{RunEnd, run_on_watched};
 use cb_shelf::{Shelf, ShelfFault};
 use cb_station::{Office, OfficeFault, Station};
 use sqlite::Alter;
 use std::alloc::Global;
+use std::io;
 use std::sync::Wait;
 use std::sync::atomic::Ordering;
 use std::thread::Threads;
@@ -189,6 +190,14 @@ fn prepare<R: Wait>(rt: &R, alloc: Global, office: &Office, act: Act) {
     }
 }
 
+/// The status of a run; nothing where a writer failed.
+pub(crate) fn status_of(ran: io::Result<RunEnd<'_>>) -> Option<u8> {
+    match ran {
+        Ok(ended) => Some(ended.status),
+        Err(_) => None,
+    }
+}
+
 /// What comes of a run in an office.
 pub(crate) fn came_in<R: Threads + Wait + Clock + Sync, S: Alter>(
     rt: &R,
@@ -217,7 +226,7 @@ pub(crate) fn came_in<R: Threads + Wait + Clock + Sync, S: Alter>(
     if !are_fair(office.lock(rt).window(), answered) {
         return Came::Wrong;
     }
-    match ran.ok() {
+    match status_of(ran) {
         None => Came::Unseen,
         Some(0) if whole && err.is_empty() && have_left(rt, alloc, office, counts.plan) => {
             came_of(alloc, shelf, answered, counts.plan.act, out.as_slice())

@@ -1,7 +1,7 @@
 //! A flusher and a run on which nobody looks.
 use crate::running::gates::{Counts, Guarded};
 use crate::running::refusals::{Refusal, is_refused};
-use crate::running::run::open_plan;
+use crate::running::run::{open_plan, status_of};
 use crate::running::trials::{Trial, goes_well};
 use cb_page::Limits;
 use cb_run::{flush_again, flush_loop, run_on};
@@ -48,7 +48,9 @@ pub(crate) fn is_counted<R: Threads + Wait + Clock + Sync, S: Alter>(
     let ran = run_on(
         rt, alloc, limits, office, shelf, 2, &gate, &mut out, &mut err,
     );
-    ran.ok() == Some(0) && out.as_slice() == b"committed 8\nsum 16\n".as_slice() && err.is_empty()
+    status_of(ran) == Some(0)
+        && out.as_slice() == b"committed 8\nsum 16\n".as_slice()
+        && err.is_empty()
 }
 
 #[test]

@@ -1,11 +1,11 @@
--- Goals of `flush_to_end`.
+-- Goals of `flush_in_tries`.
 use Rattle.std.proofs.Common.{◌∙◌, subst}
 use Rattle.std.specs.Prelude.{OnErr, OnOk}
 use Rattle.std.proofs.lemmas.Result.{on_err_weaker, on_ok_weaker}
 use Rattle.cb_page.specs.Bounds.{Bounds}
 use Rattle.cb_run.proofs.Trying.{first_left, first_survives, first_written, later_left, later_survives, later_written}
 use Rattle.cb_run.specs.Flushing.{LeavesFirst, Tries, WritesFirst}
-use Rattle.cb_run.proofs.tries.flush_to_end.Goals as goal
+use Rattle.cb_run.proofs.tries.flush_in_tries.Goals as goal
 
 pub loop-init : goal.loop-init
 loop-init g c = (
@@ -15,6 +15,7 @@ loop-init g c = (
   on_err_weaker c.flush_counted-stopped.result (first_left g.S.Store c.args.shelf.now.limits c.args.shelf.now.conn c.flush_counted-stopped.new.shelf.conn) c.flush_counted-stopped.ensures.left,
   on_ok_weaker c.flush_counted-stopped.result (first_written g.S.Store c.args.shelf.now.limits c.args.shelf.now.conn c.flush_counted-stopped.new.shelf.conn) c.flush_counted-stopped.ensures.written,
   first_survives g.S.Store c.args.shelf.now.limits c.args.shelf.now.conn c.flush_counted-stopped.new.shelf.conn c.flush_counted-stopped.ensures.crash,
+  c.flush_counted-stopped.ensures.office,
 )
 
 pub loop-preserved : goal.loop-preserved
@@ -28,4 +29,5 @@ loop-preserved g c =
       on_err_weaker c.flush_counted_again-stopped.result (later_left g.S.Store c.args.shelf.now.limits c.args.shelf.now.conn c.loop.shelf.conn tries c.into_stop-stop.result.batch c.flush_counted_again-stopped.new.shelf.conn) left,
       on_ok_weaker c.flush_counted_again-stopped.result (later_written g.S.Store c.args.shelf.now.limits c.args.shelf.now.conn c.loop.shelf.conn tries c.into_stop-stop.result.batch c.flush_counted_again-stopped.new.shelf.conn) written,
       later_survives g.S.Store c.args.shelf.now.limits c.args.shelf.now.conn c.loop.shelf.conn tries c.into_stop-stop.result.batch c.flush_counted_again-stopped.new.shelf.conn c.loop.invariant.5 c.flush_counted_again-stopped.ensures.crash,
+      c.flush_counted_again-stopped.ensures.office,
     )
