@@ -28,7 +28,8 @@ use Rattle.cb_play.specs.declared.store_file.StoreEnd.{StoreEnd}
 use Rattle.cb_play.specs.declared.store_file.StoreFile.{StoreFile}
 
 -- what goes out before the first frame is read: the life's announcement, or nothing
-abbrev pub TellsLife : (announces : Bool) → (floor : ℕ) → (old_out new_out : Option (List ℕ)) → Type 0
+abbrev pub TellsLife : (announces : Bool) → (floor : ℕ) → (old_out new_out : Option (List ℕ))
+    → Type 0
 TellsLife true floor old_out new_out = Appends old_out new_out (announcement floor)
 TellsLife false floor old_out new_out = new_out ≡ old_out
 

@@ -37,8 +37,8 @@ pub(crate) struct StoreFile<'a> {
     reach: Reach,
 }
 
-/// How a command over a store ended: the program's status, the file that it opened, and that its run
-/// was over. There is no file where it came to none, and no run where no jobs were counted.
+/// How a command over a store ended: the program's status, the file that it opened, and that its
+/// run was over. There is no file where it came to none, and no run where no jobs were counted.
 #[derive(Drop)]
 pub(crate) struct StoreEnd<'a> {
     pub(crate) status: u8,

@@ -67,8 +67,8 @@ abbrev pub IsSumIn : Database → (sum : ℕ) → Type 0
 IsSumIn db sum = (tables : _) × (store : StoreState) × Holds tables db store
     × (sum ≡ sum_of_counters store)
 
--- All jobs were committed, fewer only if the run was cut off, which was over so; and the sum is that
--- of the tables as they are, unless the disk failed or the connection was closed.
+-- All jobs were committed, fewer only if the run was cut off, which was over so; and the sum is
+-- that of the tables as they are, unless the disk failed or the connection was closed.
 pub record IsCounted {S : Type 0} (g : Ghosts S) (all : ℕ) (cut_off : Option Bool) (after : Held S)
     (counted : Counted) : Type 0 where
   pub few : counted.committed ≤ all

@@ -39,8 +39,8 @@ fn await_others<'a, R: Wait + Clock>(
     }
 }
 
-/// Waits for more to be committed, which the watch is told: where nothing is left to write, and some
-/// call of `work` may still commit.
+/// Waits for more to be committed, which the watch is told: where nothing is left to write, and
+/// some call of `work` may still commit.
 fn wait_for_more<'a, R: Wait, W: Watch>(
     rt: &R,
     office: &'a Office,

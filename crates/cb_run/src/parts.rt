@@ -67,8 +67,8 @@ impl<N> Parts<N> {
     }
 
     /// How the run ended of so many clients whose flusher ended so: by the first fault, as
-    /// [`of_run`] says; well, only where as many parts as there are clients had nothing to tell. Where
-    /// fewer had, and none told of a fault, a worker is at fault.
+    /// [`of_run`] says; well, only where as many parts as there are clients had nothing to tell.
+    /// Where fewer had, and none told of a fault, a worker is at fault.
     pub(crate) fn end<'a>(
         &self,
         flushed: Result<Over<'a>, ShelfFault>,

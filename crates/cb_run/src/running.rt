@@ -139,9 +139,9 @@ where
     counted(run, limits, shelf, jobs, watch)
 }
 
-/// Runs all to their end, and counts the results as they come: how many jobs were committed, and the
-/// sum of the counters as the tables have them. Where not all were committed, and nobody cut the run
-/// off, a worker is at fault.
+/// Runs all to their end, and counts the results as they come: how many jobs were committed, and
+/// the sum of the counters as the tables have them. Where not all were committed, and nobody cut
+/// the run off, a worker is at fault.
 fn counted<'a, R, G, S, W>(
     run: Run<'a, R, G>,
     limits: &Limits,
@@ -177,10 +177,10 @@ where
 struct ThisRun;
 
 /// Runs the workers on threads of their own, and the flusher on this one, until all have ended. The
-/// flusher ends once the last worker has; should it end before, the others are halted. Who ends well
-/// holds that the run is over, and whether others cut it off: they halted the office, or closed it
-/// before all had begun to work. It ends well only where as many parts as there are clients ended with
-/// nothing to tell.
+/// flusher ends once the last worker has; should it end before, the others are halted. Who ends
+/// well holds that the run is over, and whether others cut it off: they halted the office, or
+/// closed it before all had begun to work. It ends well only where as many parts as there are
+/// clients ended with nothing to tell.
 fn run_all<'a, R, G, S, W>(
     run: Run<'a, R, G>,
     limits: &Limits,
