@@ -45,7 +45,10 @@ fn do_line<R: Threads + Wait + Clock + Sync, O: Write>(
     let words = words_of(rt.alloc(), line)?;
     let mut said = Vec::new(rt.alloc());
     let done = match request_of(rt.alloc(), words.as_slice()) {
-        Ok(request) => do_request(rt, threads, request, out, &mut said).map(|ended| ended.status),
+        Ok(request) => match do_request(rt, threads, request, out, &mut said) {
+            Ok(ended) => Ok(ended.status),
+            Err(error) => Err(error),
+        },
         Err(error) => tell_words(rt, words.as_slice(), &error, out, &mut said),
     };
     let status = match done {
