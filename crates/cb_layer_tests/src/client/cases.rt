@@ -71,12 +71,13 @@ fn recorded<Q: Chooser>(alloc: Global, limits: &Limits) -> Option<Client<Recorde
     }
 }
 
-/// A client that restarted over such a chooser.
+/// A client that restarted over such a chooser, at its next incarnation.
 fn restarted<Q: Chooser>(alloc: Global, limits: &Limits) -> Option<Client<Recorder<Q>>> {
     let mut client = new_client(alloc, limits)?;
+    let next = client.incarnation().next()?;
     match recorder(alloc, limits) {
         Ok(recorder) => {
-            client.restart(Incarnation::new(1), recorder);
+            client.restart(next, recorder);
             Some(client)
         }
         Err(_) => None,
@@ -85,7 +86,11 @@ fn restarted<Q: Chooser>(alloc: Global, limits: &Limits) -> Option<Client<Record
 
 /// What the client says to that frame; nothing where it doesn't fit, or memory is refused.
 fn taken<Q: Chooser>(alloc: Global, client: &mut Client<Q>, body: Body) -> Vec<Frame> {
-    let frame = frame(body);
+    let frame = Frame {
+        client: ClientNo::new(0),
+        incarnation: client.incarnation(),
+        body,
+    };
     if !frame.fits(client.limits()) {
         return Vec::new(alloc);
     }
