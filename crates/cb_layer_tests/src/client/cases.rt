@@ -12,43 +12,46 @@ use cb_twoq::{Chooser, PlainTwoQ, TwoQ};
 use std::alloc::{AllocError, Global};
 use std::test::Fail;
 
-/// A frame for client 0 at incarnation 1.
+/// A frame for client 0 at incarnation 2.
 pub(crate) fn frame(body: Body) -> Frame
-    ensures { result ≡ record { client = 0; incarnation = 1; body = body } }
+    ensures { result ≡ record { client = 0; incarnation = 2; body = body } }
 {
     Frame {
         client: ClientNo::new(0),
-        incarnation: Incarnation::new(1),
+        incarnation: Incarnation::new(2),
         body,
     }
 }
 
-/// Client 0 at incarnation 1 over this chooser; None where memory is refused.
-fn client_over<Q: Chooser>(alloc: Global, limits: &Limits, chooser: Q) -> Option<Client<Q>>
+/// Client 0 at that incarnation over this chooser; None where memory is refused.
+fn client_over<Q: Chooser>(
+    alloc: Global,
+    limits: &Limits,
+    incarnation: Incarnation,
+    chooser: Q,
+) -> Option<Client<Q>>
     requires members { Q.members chooser ≡ [] }
     requires slots { Q.slots chooser ≡ limits.now.slots }
     ensures { IfSome result (λ client. client.copies.limits ≡ limits.now) }
 {
     // There is one client at least: `clients` says so.
     let _known = limits.clients();
-    match Client::new(
-        alloc,
-        ClientNo::new(0),
-        Incarnation::new(1),
-        limits,
-        chooser,
-    ) {
+    match Client::new(alloc, ClientNo::new(0), incarnation, limits, chooser) {
         Ok(client) => Some(client),
         Err(_) => None,
     }
 }
 
 /// The same over a new chooser.
-fn new_client<Q: Chooser>(alloc: Global, limits: &Limits) -> Option<Client<Q>>
+fn new_client<Q: Chooser>(
+    alloc: Global,
+    limits: &Limits,
+    incarnation: Incarnation,
+) -> Option<Client<Q>>
     ensures { IfSome result (λ client. client.copies.limits ≡ limits.now) }
 {
     match Q::make(alloc, limits) {
-        Ok(chooser) => client_over(alloc, limits, chooser),
+        Ok(chooser) => client_over(alloc, limits, incarnation, chooser),
         Err(_) => None,
     }
 }
@@ -66,14 +69,14 @@ fn recorder<Q: Chooser>(alloc: Global, limits: &Limits) -> Result<Recorder<Q>, A
 /// A new client over such a chooser.
 fn recorded<Q: Chooser>(alloc: Global, limits: &Limits) -> Option<Client<Recorder<Q>>> {
     match recorder(alloc, limits) {
-        Ok(recorder) => client_over(alloc, limits, recorder),
+        Ok(recorder) => client_over(alloc, limits, Incarnation::new(2), recorder),
         Err(_) => None,
     }
 }
 
-/// A client that restarted over such a chooser, at its next incarnation.
+/// A client that restarted over such a chooser, at incarnation 2.
 fn restarted<Q: Chooser>(alloc: Global, limits: &Limits) -> Option<Client<Recorder<Q>>> {
-    let mut client = new_client(alloc, limits)?;
+    let mut client = new_client(alloc, limits, Incarnation::new(1))?;
     let next = client.incarnation().next()?;
     match recorder(alloc, limits) {
         Ok(recorder) => {
@@ -86,11 +89,7 @@ fn restarted<Q: Chooser>(alloc: Global, limits: &Limits) -> Option<Client<Record
 
 /// What the client says to that frame; nothing where it doesn't fit, or memory is refused.
 fn taken<Q: Chooser>(alloc: Global, client: &mut Client<Q>, body: Body) -> Vec<Frame> {
-    let frame = Frame {
-        client: ClientNo::new(0),
-        incarnation: client.incarnation(),
-        body,
-    };
+    let frame = frame(body);
     if !frame.fits(client.limits()) {
         return Vec::new(alloc);
     }
@@ -119,12 +118,12 @@ fn are(frames: &[Frame], bodies: &[ShortBody]) -> bool {
             .all(|(frame, body)| is(frame, *body))
 }
 
-/// Whether the frame is client 0's of incarnation 1 and says this.
+/// Whether the frame is client 0's of incarnation 2 and says this.
 fn is(frame: &Frame, body: ShortBody) -> bool {
     match &frame.body {
         Body::Short(said) => {
             frame.client == ClientNo::new(0)
-                && frame.incarnation == Incarnation::new(1)
+                && frame.incarnation == Incarnation::new(2)
                 && *said == body
         }
         _ => false,
@@ -264,7 +263,7 @@ fn lets_the_first_go<Q: Chooser>(alloc: Global, client: &mut Client<Q>) -> bool 
 
 /// Whether a new client over a new chooser does.
 fn new_one_lets_go<Q: Chooser>(alloc: Global, limits: &Limits) -> bool {
-    match new_client::<Q>(alloc, limits) {
+    match new_client::<Q>(alloc, limits, Incarnation::new(2)) {
         Some(mut client) => lets_the_first_go(alloc, &mut client),
         None => false,
     }
@@ -351,7 +350,7 @@ fn drops<Q: Chooser>(alloc: Global, client: &mut Client<Q>, txn: TxnNo) -> bool 
 
 /// The same of a new client over a new chooser.
 fn new_one_has_memory<Q: Chooser>(alloc: Global, limits: &Limits) -> bool {
-    match new_client::<Q>(alloc, limits) {
+    match new_client::<Q>(alloc, limits, Incarnation::new(2)) {
         Some(mut client) => has_memory(alloc, &mut client),
         None => false,
     }

@@ -24,7 +24,7 @@ pub(crate) fn called<Q: Chooser>(
     page: PageNo,
     grant: GrantNo,
 ) -> Option<Vec<Frame>>
-    ensures { IfSome result (λ said. client.old.no ≡ 0 → client.old.incarnation ≡ 1
+    ensures { IfSome result (λ said. client.old.no ≡ 0 → client.old.incarnation ≡ 2
         → client.old.welcomed ≡ true → (operations : List Operation)
         → SaysSo (λ before after bodies. AnswersCallback before after bodies page grant)
         client.old client.new (messages_of said.items) operations) }
