@@ -13,9 +13,9 @@ PROGRAMS = TOP / "scripts/programs"
 # The command that proves.
 RT = os.environ.get("RT", "rt").split()
 # What programs stand on.
-SHELF = ["cb_page", "cb_frame_types", "cb_frame", "cb_commit", "cb_shelf", "cb_test_parts"]
+SHELF = ["cb_page", "cb_frame", "cb_commit", "cb_shelf", "cb_test_parts"]
 KILLED = [
-    "cb_page", "cb_commit", "cb_console", "cb_sql", "cb_shelf", "cb_station", "cb_jobs", "cb_run",
+    "cb_page", "cb_commit", "cb_console", "cb_shelf", "cb_station", "cb_run",
     "sqlite", "anyhow",
 ]
 DATABASE = ["sqlite", "sqlite_disk", "sqlite_store", "anyhow"]
@@ -154,7 +154,7 @@ def shelf_files(room: Path) -> Path:
     """The program that opens shelves over real files: the one that PROGRAM names, else built."""
     if given := named("PROGRAM"):
         return given
-    copy = copy_of([*SHELF, "cb_sql"], room / "shelf_files")
+    copy = copy_of(SHELF, room / "shelf_files")
     crate = new_crate(copy, "shelf_files", [*SHELF, *DATABASE])
     # It commits, and looks at what a shelf holds, as the tests do.
     bench = (TOP / "crates/cb_tests/src/running/commits.rt").read_text()

@@ -14,7 +14,7 @@ import building
 from costs import cost
 
 LIBRARIES = [
-    "cb_page", "cb_frame_types", "cb_frame", "cb_twoq", "cb_pool", "cb_cache", "cb_locks",
+    "cb_page", "cb_frame", "cb_twoq", "cb_pool", "cb_cache", "cb_locks",
     "cb_client",
 ]
 

@@ -13,7 +13,7 @@ built one. Five runs take some minutes.
 import building
 from costs import cost
 
-LIBRARIES = ["cb_page", "cb_frame_types", "cb_frame", "cb_commit", "cb_waits", "cb_server"]
+LIBRARIES = ["cb_page", "cb_frame", "cb_commit", "cb_waits", "cb_server"]
 
 
 def exchanges(program, runs):

@@ -17,7 +17,7 @@ from costs import cost
 SETTINGS = [
     (64, 16, 10), (64, 16, 100_000), (4096, 16, 10), (4096, 16, 100_000), (64, 4096, 10),
 ]
-LIBRARIES = ["cb_page", "cb_frame_types", "cb_frame", "cb_commit", "cb_hands", "cb_station"]
+LIBRARIES = ["cb_page", "cb_frame", "cb_commit", "cb_hands", "cb_station"]
 
 
 def main(words):

@@ -21,7 +21,7 @@ import building
 import serial
 
 LIBRARIES = [
-    "cb_page", "cb_admission", "cb_jobs", "cb_run", "cb_shelf", "cb_station", "cb_twoq",
+    "cb_page", "cb_admission", "cb_run", "cb_shelf", "cb_station", "cb_twoq",
     "cb_worker", "anyhow", "rand_core", "rand_pcg", "sqlite",
 ]
 CLIENTS = [32, 2, 8, 32, 4, 16]

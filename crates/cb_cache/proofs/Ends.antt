@@ -3,8 +3,8 @@ use Rattle.std.proofs.Common.{◌≡◌, ◌≤◌, ◌+◌, ◌==◌, ℕ, zero
 use Rattle.std.specs.Option.{is_some}
 use Rattle.cb_page.specs.Bounds.{Bounds}
 use Rattle.cb_page.specs.Flags.{has}
-use Rattle.cb_frame_types.specs.declared.frame.Frame.{Frame}
-use Rattle.cb_frame_types.specs.declared.frame.ShortFrame.{ShortFrame}
+use Rattle.cb_frame.specs.declared.frame.Frame.{Frame}
+use Rattle.cb_frame.specs.declared.frame.ShortFrame.{ShortFrame}
 use Rattle.cb_outbox.specs.Messages.{messages_of, short_of}
 use Rattle.cb_protocol.proofs.Cases.{client_after_append}
 use Rattle.cb_protocol.specs.Basics.{is_none, update}

@@ -1,6 +1,6 @@
 -- What the end of a transaction does and says, by the protocol's steps.
 use Rattle.std.specs.Prelude.{◌≡◌, ℕ, Bool, List, ◌++◌, map}
-use Rattle.cb_frame_types.specs.declared.frame.Frame.{Frame}
+use Rattle.cb_frame.specs.declared.frame.Frame.{Frame}
 use Rattle.cb_outbox.specs.Messages.{messages_of}
 use Rattle.cb_protocol.specs.Client.{Client, ClientStep, bodies_said, client_after}
 use Rattle.cb_protocol.specs.ClientEnd.{end_page, end_pages}

@@ -15,7 +15,7 @@ use Rattle.cb_chart.specs.declared.arrows.Sending.{Sending}
 use Rattle.cb_chart.specs.declared.bars.ClientCopy.{ClientCopy}
 use Rattle.cb_chart.specs.declared.chart.Chart.{Chart}
 use Rattle.cb_chart.specs.declared.marks.Mark.{Mark}
-use Rattle.cb_event.specs.declared.event.Event.{Event}
+use Rattle.cb_transcript.specs.declared.event.Event.{Event}
 use Rattle.cb_page.specs.Bounds.{Bounds}
 use Rattle.cb_transcript.specs.declared.answer.Answer.{Answer}
 use Rattle.cb_transcript.specs.declared.answer.TranscriptEntry.{TranscriptEntry}

@@ -1,7 +1,9 @@
 -- What is proved where.
 -- Growing: bars after one event more.
-pub mod Growing
 -- Sightings: what is seen of clients, page by page.
-pub mod Sightings
 -- Drawing: a chart after one event more.
+-- Printing: what is printed for one more of a list.
+pub mod Growing
+pub mod Sightings
 pub mod Drawing
+pub mod Printing

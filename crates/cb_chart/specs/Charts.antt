@@ -1,6 +1,6 @@
 -- What a chart shows of the events that were played.
 use Rattle.std.specs.Prelude.{◌≡◌, ◌∷◌, List, [], map, length}
-use Rattle.cb_event.specs.declared.event.Event.{Event}
+use Rattle.cb_transcript.specs.declared.event.Event.{Event}
 use Rattle.cb_page.specs.Bounds.{Bounds}
 use Rattle.cb_transcript.specs.declared.answer.Answer.{Answer}
 use Rattle.cb_world.specs.Draws.{IsOpening}

@@ -3,8 +3,7 @@ ghost use Rattle.std.specs.Prelude.{◌≡◌, ◌++◌, map, OnOk};
 ghost use Rattle.std.specs.Option.{option_to_list};
 ghost use Rattle.cb_chart.specs.Arrows.{arrow_to, packet_taken, sending_of, sent_by};
 
-use cb_event::Event;
-use cb_transcript::{AnswerWord, SentPacket};
+use cb_transcript::{AnswerWord, Event, SentPacket};
 use std::alloc::AllocError;
 
 /// A packet that was sent by an event.

@@ -3,7 +3,7 @@ ghost use Rattle.std.specs.Prelude.{◌≡◌, ◌≤◌, ◌<◌, ◌↔◌, �
 ghost use Rattle.std.specs.Prelude.{IfOk, IfErr, OnOk};
 ghost use Rattle.cb_chart.specs.Arrows.{is_again, is_taken};
 ghost use Rattle.cb_chart.specs.Charts.{Shows};
-ghost use Rattle.cb_event.specs.declared.event.Event.{Event as EventData};
+ghost use Rattle.cb_transcript.specs.declared.event.Event.{Event as EventData};
 ghost use Rattle.cb_page.specs.Bounds.{Bounds};
 ghost use Rattle.cb_chart.specs.declared.chart.ChartFault.TheVariants as fault;
 
@@ -12,9 +12,8 @@ use crate::bars::{Bar, go_on};
 use crate::copies::copies_in;
 use crate::marks::{Mark, at_work, ended};
 use cb_commit::Store;
-use cb_event::Event;
 use cb_page::Limits;
-use cb_transcript::TranscriptEntry;
+use cb_transcript::{Event, TranscriptEntry};
 use cb_twoq::TwoQ;
 use cb_world::World;
 use std::alloc::{AllocError, Global};

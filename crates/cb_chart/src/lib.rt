@@ -5,6 +5,8 @@
 //! its answer, the packets that it sent ([`Sending`]), which event took which packet ([`Arrow`]),
 //! when each client had a copy of a page that it could read ([`Bar`]), and which transactions ended
 //! ([`Mark`]). All of it is told by numbers of events, counted from 0.
+//!
+//! [`chart_to`] prints the picture of it, as an SVG that stands alone ([`picture`]).
 #![tactic(auto)]
 
 mod arrows;
@@ -12,8 +14,10 @@ mod bars;
 mod chart;
 mod copies;
 mod marks;
+mod picture;
 
 pub use arrows::{Arrow, Sending};
 pub use bars::{Bar, ClientCopy};
 pub use chart::{Chart, ChartFault, MOST_EVENTS};
 pub use marks::{Ending, Mark};
+pub use picture::{PictureFault, chart_to};

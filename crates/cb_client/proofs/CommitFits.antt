@@ -8,8 +8,8 @@ use Rattle.cb_client.specs.CallAnswers.{SaysCommit}
 use Rattle.cb_client_core.specs.ClientState.{ClientState, IsClient, client_of, stage_of}
 use Rattle.cb_client_core.specs.declared.stage.Stage.{Stage}
 use Rattle.cb_client_core.specs.declared.stage.Stage.TheVariants as stages
-use Rattle.cb_frame_types.specs.Grammar as grammar
-use Rattle.cb_frame_types.specs.declared.frame.Frame.{Frame}
+use Rattle.cb_frame.specs.Grammar as grammar
+use Rattle.cb_frame.specs.declared.frame.Frame.{Frame}
 use Rattle.cb_page.specs.Numbers.{IsNumber}
 use Rattle.cb_protocol.proofs.ClientInvariant.{ClientKeeps, tidy}
 use Rattle.cb_protocol.proofs.ClientRanges.{Sized, sized}

@@ -3,7 +3,7 @@ use Rattle.std.proofs.Common.{◌≡◌, ℕ, true, List, ◌∷◌, [], ◌++�
 use Rattle.std.specs.Option.{option_map}
 use Rattle.cb_cache.specs.CacheState.{CacheState}
 use Rattle.cb_cache.specs.Ending.{pages_steps}
-use Rattle.cb_frame_types.specs.declared.frame.Frame.{Frame}
+use Rattle.cb_frame.specs.declared.frame.Frame.{Frame}
 use Rattle.cb_locks.specs.Locks.{LocksState}
 use Rattle.cb_outbox.specs.Messages.{messages_of}
 use Rattle.cb_protocol.specs.Answers as table

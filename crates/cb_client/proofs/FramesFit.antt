@@ -5,13 +5,13 @@ use Rattle.std.specs.List.{AllByRecursion}
 use Rattle.cb_page.specs.Bounds.{Bounds}
 use Rattle.cb_page.specs.Rising.{RisesFrom}
 use Rattle.cb_cache.specs.CacheState.{copy_at, limits_of}
-use Rattle.cb_frame_types.specs.Grammar as grammar
-use Rattle.cb_frame_types.specs.declared.frame.Body.{Body}
-use Rattle.cb_frame_types.specs.declared.frame.Body.TheVariants as body
-use Rattle.cb_frame_types.specs.declared.frame.Frame.{Frame}
-use Rattle.cb_frame_types.specs.declared.frame.ShortBody.{ShortBody}
-use Rattle.cb_frame_types.specs.declared.frame.ShortBody.TheVariants as short
-use Rattle.cb_frame_types.specs.declared.writes.Write.{Write}
+use Rattle.cb_frame.specs.Grammar as grammar
+use Rattle.cb_frame.specs.declared.frame.Body.{Body}
+use Rattle.cb_frame.specs.declared.frame.Body.TheVariants as body
+use Rattle.cb_frame.specs.declared.frame.Frame.{Frame}
+use Rattle.cb_frame.specs.declared.frame.ShortBody.{ShortBody}
+use Rattle.cb_frame.specs.declared.frame.ShortBody.TheVariants as short
+use Rattle.cb_frame.specs.declared.writes.Write.{Write}
 use Rattle.cb_outbox.specs.Messages.{body_of, message_of, messages_of, page_writes, short_of}
 use Rattle.cb_protocol.proofs.ClientInvariant.{ClientKeeps, tidy}
 use Rattle.cb_protocol.proofs.ClientRanges.{client_messages_in_range, sized}
@@ -20,7 +20,7 @@ use Rattle.cb_protocol.specs.Cache as protocol_cache
 use Rattle.cb_protocol.specs.Serial.{Operation}
 use Rattle.std.specs.Option.{option_map}
 use Rattle.cb_page.specs.Numbers.{IsNumber}
-use Rattle.cb_frame_types.specs.declared.frame.ShortFrame.{ShortFrame}
+use Rattle.cb_frame.specs.declared.frame.ShortFrame.{ShortFrame}
 use Rattle.cb_client.specs.CallAnswers.{ShortFrameFits, short_message}
 use Rattle.cb_client_core.specs.declared.stage.PendingAsk.{PendingAsk}
 use Rattle.cb_client_core.specs.declared.stage.PendingAsk.TheVariants as asks

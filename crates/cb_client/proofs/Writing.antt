@@ -1,7 +1,7 @@
 -- What the protocol's table says of a commit.
 use Rattle.std.proofs.lemmas.Bool.Decides.{nat_tests}
 use Rattle.std.proofs.Common.{◌==◌, ◌≡◌, ◌<◌, ℕ, true, List, [], ◌∷◌, Some, refl, sym, ◌∙◌, ap, arith}
-use Rattle.cb_frame_types.specs.declared.writes.Write.{Write}
+use Rattle.cb_frame.specs.declared.writes.Write.{Write}
 use Rattle.cb_outbox.specs.Messages.{page_writes}
 use Rattle.cb_protocol.specs.Answers as table
 use Rattle.cb_protocol.specs.Cache.{Finish}

@@ -3,11 +3,11 @@ use Rattle.std.specs.Prelude.{if◌then◌else◌, ◌≡◌, ◌&&◌, ℕ, Boo
 use Rattle.std.specs.Prelude.{Result, Ok, Err, ⊤, true, slice_set, unwrap_or}
 use Rattle.std.specs.Option.{is_some}
 use Rattle.cb_cache.specs.CacheState.{content_at, copy_at, referred_to}
-use Rattle.cb_frame_types.specs.Grammar.{Fits}
-use Rattle.cb_frame_types.specs.declared.frame.Body.TheVariants.{Short}
-use Rattle.cb_frame_types.specs.declared.frame.Frame.{Frame}
+use Rattle.cb_frame.specs.Grammar.{Fits}
+use Rattle.cb_frame.specs.declared.frame.Body.TheVariants.{Short}
+use Rattle.cb_frame.specs.declared.frame.Frame.{Frame}
 use Rattle.cb_page.specs.Bounds.{Bounds}
-use Rattle.cb_frame_types.specs.declared.frame.ShortFrame.{ShortFrame}
+use Rattle.cb_frame.specs.declared.frame.ShortFrame.{ShortFrame}
 use Rattle.cb_outbox.specs.Messages.{message_of, short_of}
 use Rattle.cb_protocol.specs.Answers as table
 use Rattle.cb_protocol.specs.Basics.{Bytes, is_none}

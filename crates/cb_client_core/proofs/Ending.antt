@@ -5,7 +5,7 @@ use Rattle.std.proofs.lemmas.Bool.Decides.{nat_tests}
 use Rattle.std.proofs.lemmas.List.{length-replicate}
 use Rattle.cb_page.specs.Bounds.{Bounds}
 use Rattle.cb_page.specs.Flags.{has}
-use Rattle.cb_frame_types.specs.declared.frame.Frame.{Frame}
+use Rattle.cb_frame.specs.declared.frame.Frame.{Frame}
 use Rattle.cb_outbox.specs.Messages.{messages_of}
 use Rattle.cb_protocol.proofs.Cases.{client_after_append, takes_welcomed}
 use Rattle.cb_protocol.specs.Basics.{is_none, update}

@@ -1,6 +1,6 @@
 -- The frames that a client ignores.
-use Rattle.cb_frame_types.specs.declared.frame.ShortBody.{ShortBody}
-use Rattle.cb_frame_types.specs.declared.frame.ShortBody.TheVariants as short
+use Rattle.cb_frame.specs.declared.frame.ShortBody.{ShortBody}
+use Rattle.cb_frame.specs.declared.frame.ShortBody.TheVariants as short
 use Rattle.cb_outbox.specs.Messages.{short_of}
 use Rattle.std.proofs.Common.{ℕ, ◌≡◌, ◌≢◌, Bool, true, false, List, [], None, refl, sym, ap, ◌∙◌}
 use Rattle.cb_protocol.proofs.Cases.{takes_nothing_unwelcomed, takes_welcomed}

@@ -8,7 +8,7 @@ use Rattle.cb_page.specs.Bounds.{Bounds}
 use Rattle.cb_pool.specs.declared.pool.PoolFault.{PoolFault}
 use Rattle.cb_pool.specs.declared.pool.PoolFault.TheVariants as pool
 use Rattle.cb_page.specs.Flags.{has}
-use Rattle.cb_frame_types.specs.declared.frame.Frame.{Frame}
+use Rattle.cb_frame.specs.declared.frame.Frame.{Frame}
 use Rattle.cb_outbox.specs.Messages.{messages_of}
 use Rattle.cb_protocol.proofs.Cases.{takes_welcomed}
 use Rattle.cb_protocol.specs.Basics.{Bytes, is_none, update}

@@ -1,7 +1,7 @@
 -- The room that a client makes at a message.
 use Rattle.std.proofs.Common.{if◌then◌else◌, ℕ, ◌≡◌, Bool, true, false, List, refl, ◌∙◌}
-use Rattle.cb_frame_types.specs.declared.frame.ShortBody.{ShortBody}
-use Rattle.cb_frame_types.specs.declared.frame.ShortBody.TheVariants as short
+use Rattle.cb_frame.specs.declared.frame.ShortBody.{ShortBody}
+use Rattle.cb_frame.specs.declared.frame.ShortBody.TheVariants as short
 use Rattle.cb_outbox.specs.Messages.{short_of}
 use Rattle.cb_protocol.specs.Messages.{Body, Commit, PageWrite}
 use Rattle.cb_client_core.specs.ClientState.{ClientState}

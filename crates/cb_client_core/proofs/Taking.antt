@@ -20,8 +20,8 @@ use Rattle.cb_page.specs.Bounds.{Bounds}
 use Rattle.cb_cache.specs.ByTable.{Does, DoesInTxn}
 use Rattle.cb_cache.specs.CacheState.{CacheState, client_with, content_at, copy_at}
 use Rattle.cb_locks.specs.Dues.{called_by, is_due, noted, nothing_due}
-use Rattle.cb_frame_types.specs.declared.frame.Frame.{Frame}
-use Rattle.cb_frame_types.specs.declared.frame.ShortBody.TheVariants as short
+use Rattle.cb_frame.specs.declared.frame.Frame.{Frame}
+use Rattle.cb_frame.specs.declared.frame.ShortBody.TheVariants as short
 use Rattle.cb_outbox.specs.Messages.{message_of}
 use Rattle.cb_locks.specs.Frames.{saying}
 use Rattle.cb_locks.specs.Locks.{callback, due_at, with_noted}

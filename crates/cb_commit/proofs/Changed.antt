@@ -5,7 +5,7 @@ use Rattle.std.proofs.lemmas.Bool.{cases_eq, cases_Bool, lt-ltb}
 use Rattle.std.proofs.lemmas.List.{map-append, length-set, get_or-set_same, get_or-set_other}
 use Rattle.std.proofs.lemmas.List.Elements.{All-append}
 use Rattle.cb_page.specs.Rising.{RisesFrom, IsRising}
-use Rattle.cb_frame_types.specs.declared.writes.Write.{Write}
+use Rattle.cb_frame.specs.declared.writes.Write.{Write}
 use Rattle.cb_commit.specs.declared.store.StoredPage.{StoredPage}
 use Rattle.cb_commit.specs.declared.batch.BatchPage.{BatchPage}
 use Rattle.cb_commit.specs.Stores.{StoreState, IsSound, IsStored, no_page}

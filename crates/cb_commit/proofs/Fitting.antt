@@ -4,7 +4,7 @@ use Rattle.std.specs.List.{All, AllByRecursion}
 use Rattle.cb_page.specs.Bounds.{Bounds}
 use Rattle.cb_frame.specs.Grammar.{WriteFits, page_of}
 use Rattle.cb_page.specs.Rising.{IsRising}
-use Rattle.cb_frame_types.specs.declared.writes.Write.{Write}
+use Rattle.cb_frame.specs.declared.writes.Write.{Write}
 use Rattle.cb_commit.specs.Stores.{IsOf, StoreState}
 use Rattle.cb_commit.specs.History.{FitsInto, WritesInto}
 

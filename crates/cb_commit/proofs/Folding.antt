@@ -5,7 +5,7 @@ use Rattle.std.proofs.lemmas.List.{length-set, length-append, get_or-set_same, g
 use Rattle.std.proofs.lemmas.List.Elements.{All-append}
 use Rattle.cb_frame.specs.Grammar.{page_of}
 use Rattle.cb_page.specs.Rising.{IsRising}
-use Rattle.cb_frame_types.specs.declared.writes.Write.{Write}
+use Rattle.cb_frame.specs.declared.writes.Write.{Write}
 use Rattle.cb_commit.specs.declared.store.StoredPage.{StoredPage}
 use Rattle.cb_commit.specs.declared.commit.Commit.{Commit}
 use Rattle.cb_commit.specs.declared.batch.BatchPage.{BatchPage}

@@ -1,7 +1,7 @@
 -- What a commit's pages make of a store.
 use Rattle.std.proofs.Common.{◌≡◌, ℕ, ◌≤◌, List, [], ◌∷◌, ◌++◌, length, slice_set, Bool, true, refl, arith, ◌∙◌, rules}
 use Rattle.std.specs.List.{All}
-use Rattle.cb_frame_types.specs.declared.writes.Write.{Write}
+use Rattle.cb_frame.specs.declared.writes.Write.{Write}
 use Rattle.cb_commit.specs.declared.store.StoredPage.{StoredPage}
 use Rattle.cb_commit.specs.Stores.{IsStored}
 use Rattle.cb_commit.specs.Changes.{marked}

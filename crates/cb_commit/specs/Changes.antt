@@ -1,7 +1,7 @@
 -- The pages whose last commit isn't on disk, as flags.
 use Rattle.std.specs.Prelude.{◌≡◌, ℕ, nat_lt, Bool, true, List, [], ◌∷◌, length, slice_set}
 use Rattle.std.specs.Prelude.{slice_index_or}
-use Rattle.cb_frame_types.specs.declared.writes.Write.{Write}
+use Rattle.cb_frame.specs.declared.writes.Write.{Write}
 use Rattle.cb_page.specs.Flags.{has}
 use Rattle.cb_commit.specs.declared.store.StoredPage.{StoredPage}
 use Rattle.cb_commit.specs.Stores.{no_page}

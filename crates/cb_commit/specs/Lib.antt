@@ -1,3 +1,4 @@
+pub mod Past
 pub mod Stores
 pub mod Batches
 pub mod History

@@ -3,7 +3,7 @@ use Rattle.std.specs.Prelude.{ℕ, List, [], ◌∷◌}
 use Rattle.cb_commit.specs.History.{CommitsState}
 use Rattle.cb_commit.specs.Stores.{StoreState}
 use Rattle.cb_commit.specs.declared.commit.Commit.{Commit}
-use Rattle.cb_past.specs.Past.{PastState}
+use Rattle.cb_commit.specs.Past.{PastState}
 
 -- what stands for a store that nobody opened with
 abbrev pub no_store : StoreState

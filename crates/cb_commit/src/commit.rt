@@ -2,9 +2,9 @@
 ghost use Rattle.std.specs.Prelude.{◌≡◌};
 ghost use Rattle.cb_commit.specs.History.{done_of};
 
+use crate::Hollow;
 use cb_frame::{Frame, ShortBody, ShortFrame, Writes};
 use cb_page::{ClientNo, CommitNo, Incarnation, TxnNo};
-use cb_past::Hollow;
 use std::alloc::Global;
 
 /// A transaction that was committed, with the pages that it wrote.

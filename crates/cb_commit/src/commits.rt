@@ -12,10 +12,9 @@ ghost use Rattle.cb_commit.specs.History.{AreCommits, CanFlush, CatchesUp, FitsI
 ghost use Rattle.cb_commit.specs.History.{begun, done_of, dones_between, forgot, next_batch};
 ghost use Rattle.cb_commit.specs.History.{remembered};
 
-use crate::{Batch, BatchPage, Commit, Store};
+use crate::{Batch, BatchPage, Commit, Past, Store};
 use cb_frame::{Frame, Writes};
 use cb_page::{ClientNo, CommitNo, Incarnation, Limits, Page, PageSet, TxnNo};
-use cb_past::Past;
 use http_server::Log;
 use std::alloc::{AllocError, AllocFailed, Global};
 use std::marker::Model;

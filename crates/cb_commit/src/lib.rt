@@ -10,14 +10,20 @@
 //! The invariant of [`Commits`] is that the store is the fold of the commits. A batch brings any
 //! flushed state to the present one. An example that is run as a test is `batches_and_dones` in
 //! `cb_layer_tests`.
+//!
+//! A [`Past`] grows at its end, and its first items may leave memory once nobody needs them. In
+//! contracts they stay: contracts see all items that there ever were, beside how many of them were
+//! forgotten. A law of the whole list therefore holds, whatever part of it memory has.
 #![tactic(auto)]
 
 mod batch;
 mod commit;
 mod commits;
+mod past;
 mod store;
 
 pub use batch::{Batch, BatchPage};
 pub use commit::Commit;
 pub use commits::Commits;
+pub use past::{Hollow, Past};
 pub use store::{Store, StoredPage};

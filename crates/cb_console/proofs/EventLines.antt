@@ -12,13 +12,14 @@ use Rattle.std.specs.Str.{all_ascii_digits, bytes_eq}
 use Rattle.std.specs.Str.Parse.{digits_value}
 use Rattle.cb_page.specs.Bounds.{Bounds}
 use Rattle.cb_page.specs.Faults.{first_fault}
-use Rattle.cb_event.specs.Pieces.{is_blank, is_number, is_text, is_text_byte, number_of, words_of}
-use Rattle.cb_event.specs.Commands.{command_named}
-use Rattle.cb_event.specs.ScheduleText.{event_of_line, line_causes, words_causes}
-use Rattle.cb_event.specs.declared.event.Call.{Call}
-use Rattle.cb_event.specs.declared.event.Call.TheVariants as call
-use Rattle.cb_event.specs.declared.event.Event.{Event}
-use Rattle.cb_event.specs.declared.event.Event.TheVariants as event
+use Rattle.cb_transcript.specs.Pieces.{is_blank, is_number, is_text, is_text_byte, number_of}
+use Rattle.cb_transcript.specs.Pieces.{words_of}
+use Rattle.cb_transcript.specs.Commands.{command_named}
+use Rattle.cb_transcript.specs.ScheduleText.{event_of_line, line_causes, words_causes}
+use Rattle.cb_transcript.specs.declared.event.Call.{Call}
+use Rattle.cb_transcript.specs.declared.event.Call.TheVariants as call
+use Rattle.cb_transcript.specs.declared.event.Event.{Event}
+use Rattle.cb_transcript.specs.declared.event.Event.TheVariants as event
 use Rattle.cb_console.specs.DrawnText.{event_text, call_name, arguments_text}
 use Rattle.cb_console.specs.EventMeaning.{HasLine, HasArguments, IsWithin, LinesMeanEvents}
 

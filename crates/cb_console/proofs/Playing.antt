@@ -2,8 +2,8 @@
 use Rattle.std.proofs.Common.{◌≡◌, ◌≢◌, ℕ, Bool, true, false, List, Result, Ok, Err, IfErr, IsErrAnd, inr, subst, sym}
 use Rattle.std.specs.Prelude.{IfOk}
 use Rattle.cb_page.specs.Bounds.{Bounds}
-use Rattle.cb_event.specs.declared.text.ScheduleFault.{ScheduleFault}
-use Rattle.cb_event.specs.declared.text.ScheduleFault.TheVariants as schedule
+use Rattle.cb_transcript.specs.declared.text.ScheduleFault.{ScheduleFault}
+use Rattle.cb_transcript.specs.declared.text.ScheduleFault.TheVariants as schedule
 use Rattle.cb_console.specs.Runs.{BecomesOfSchedule, IsLivesPlayOfText, IsPlay, IsPlayOfText, IsPlayRefusal, IsScheduleRefusal, RefusesSchedule}
 use Rattle.cb_console.specs.declared.play.Play.{Play}
 use Rattle.cb_console.specs.declared.play.Play.TheVariants as play

@@ -3,7 +3,7 @@ use Rattle.std.proofs.Common.{◌≡◌, ◌≢◌, ℕ, List, Option, Result, O
 use Rattle.std.specs.Prelude.{IfOk}
 use Rattle.std.specs.List.{flat_map}
 use Rattle.std.specs.Io.KnownBytes.{Appends}
-use Rattle.cb_event.specs.declared.event.Event.{Event}
+use Rattle.cb_transcript.specs.declared.event.Event.{Event}
 use Rattle.cb_console.specs.DrawnText.{event_text}
 use Rattle.cb_console.specs.DrawRuns.{IsConfigRefusal, IsDrawn, IsDrawRun}
 use Rattle.cb_console.specs.Runs.{PrintsFault}

@@ -4,7 +4,7 @@ use Rattle.std.specs.Prelude.{◌≡◌, ◌≢◌, ℕ, Option, Result, Ok, Err
 use Rattle.std.specs.List.{flat_map}
 use Rattle.std.specs.Io.KnownBytes.{Appends}
 use Rattle.cb_world.specs.Draws.{AreDrawn}
-use Rattle.cb_event.specs.declared.event.Event.{Event}
+use Rattle.cb_transcript.specs.declared.event.Event.{Event}
 use Rattle.cb_console.specs.Settings.{IsConfig, IsWrong, config_text}
 use Rattle.cb_console.specs.declared.config.Config.{Config}
 use Rattle.cb_console.specs.declared.config.ConfigFault.{ConfigFault}

@@ -1,10 +1,10 @@
 -- How an event is spelled as a line of a schedule. This project's rules.
 use Rattle.std.specs.Prelude.{ℕ, List, [], ◌∷◌, ◌++◌, codes, slice_index}
 use Rattle.std.specs.Fmt.{decimal}
-use Rattle.cb_event.specs.declared.event.Call.{Call}
-use Rattle.cb_event.specs.declared.event.Call.TheVariants as call
-use Rattle.cb_event.specs.declared.event.Event.{Event}
-use Rattle.cb_event.specs.declared.event.Event.TheVariants as event
+use Rattle.cb_transcript.specs.declared.event.Call.{Call}
+use Rattle.cb_transcript.specs.declared.event.Call.TheVariants as call
+use Rattle.cb_transcript.specs.declared.event.Event.{Event}
+use Rattle.cb_transcript.specs.declared.event.Event.TheVariants as event
 
 -- the word of a call
 abbrev pub call_name : Call → List ℕ

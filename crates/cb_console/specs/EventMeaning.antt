@@ -2,11 +2,11 @@
 use Rattle.std.specs.Prelude.{◌≡◌, ◌<◌, ◌^◌, ⊤, ℕ, List, [], ◌∷◌, ◌++◌, None, Some, replicate}
 use Rattle.cb_page.specs.Bounds.{Bounds}
 use Rattle.cb_page.specs.Faults.{first_fault}
-use Rattle.cb_event.specs.ScheduleText.{event_of_line, line_causes}
-use Rattle.cb_event.specs.declared.event.Call.{Call}
-use Rattle.cb_event.specs.declared.event.Call.TheVariants as call
-use Rattle.cb_event.specs.declared.event.Event.{Event}
-use Rattle.cb_event.specs.declared.event.Event.TheVariants as event
+use Rattle.cb_transcript.specs.ScheduleText.{event_of_line, line_causes}
+use Rattle.cb_transcript.specs.declared.event.Call.{Call}
+use Rattle.cb_transcript.specs.declared.event.Call.TheVariants as call
+use Rattle.cb_transcript.specs.declared.event.Event.{Event}
+use Rattle.cb_transcript.specs.declared.event.Event.TheVariants as event
 use Rattle.cb_console.specs.DrawnText.{event_text}
 
 -- there is a line of the call: a write fills a page of the limits' size, of one byte or more, with

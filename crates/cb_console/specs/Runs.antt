@@ -10,17 +10,17 @@ use Rattle.cb_world.specs.LivesPlays.{LivesPlayed}
 use Rattle.cb_world.specs.LivesState.{LivesState}
 use Rattle.cb_world.specs.Plays.{Played}
 use Rattle.cb_world.specs.WorldState.{WorldState}
-use Rattle.cb_event.specs.FaultTexts.{fault_text}
-use Rattle.cb_event.specs.LivesText as lives_text
-use Rattle.cb_event.specs.ScheduleText as text
+use Rattle.cb_transcript.specs.FaultTexts.{fault_text}
+use Rattle.cb_transcript.specs.LivesText as lives_text
+use Rattle.cb_transcript.specs.ScheduleText as text
 use Rattle.cb_transcript.specs.LivesTranscripts.{IsSerialOverLives, LivesTranscriptState}
 use Rattle.cb_transcript.specs.Transcripts.{IsSerialOnOpening, TranscriptState}
 use Rattle.cb_transcript.specs.declared.serial.Verdict.{Verdict}
 use Rattle.cb_transcript.specs.declared.serial.Verdict.TheVariants as verdict
-use Rattle.cb_event.specs.declared.event.Event.{Event}
-use Rattle.cb_event.specs.declared.lives_event.LivesEvent.{LivesEvent}
-use Rattle.cb_event.specs.declared.text.ScheduleFault.{ScheduleFault}
-use Rattle.cb_event.specs.declared.text.ScheduleFault.TheVariants as schedule
+use Rattle.cb_transcript.specs.declared.event.Event.{Event}
+use Rattle.cb_transcript.specs.declared.lives_event.LivesEvent.{LivesEvent}
+use Rattle.cb_transcript.specs.declared.text.ScheduleFault.{ScheduleFault}
+use Rattle.cb_transcript.specs.declared.text.ScheduleFault.TheVariants as schedule
 use Rattle.cb_console.specs.Output.{last_lines, lines_from, lives_lines_from}
 use Rattle.cb_console.specs.Settings.{IsConfig, IsWrong, config_line, config_text}
 use Rattle.cb_console.specs.declared.config.Config.{Config}

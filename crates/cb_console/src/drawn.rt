@@ -6,12 +6,12 @@ ghost use Rattle.cb_console.specs.DrawnText.{arguments_text, call_name, event_te
 ghost use Rattle.cb_console.specs.EventMeaning.{LinesMeanEvents};
 ghost use Rattle.cb_console.specs.DrawRuns.{IsDrawn, IsDrawRun, IsConfigRefusal};
 ghost use Rattle.cb_console.specs.declared.play.ReadFault.TheVariants as fault;
-ghost use Rattle.cb_event.specs.declared.event.Event.TheVariants as event;
+ghost use Rattle.cb_transcript.specs.declared.event.Event.TheVariants as event;
 
 use crate::config::read_config;
 use crate::play::{ReadFault, print_fault};
 use crate::statuses::DONE;
-use cb_event::{Call, Event};
+use cb_transcript::{Call, Event};
 use cb_world::draw;
 use std::alloc::Global;
 use std::io;

@@ -15,9 +15,11 @@ use crate::config::{ConfigFault, read_config};
 use crate::output::{put_entries, put_lives_entries, put_verdict};
 use crate::statuses::{DONE, NO_MEMORY, NOT_SERIAL, WRONG_INPUT};
 use cb_commit::Store;
-use cb_event::{Event, LivesEvent, ScheduleFault, read_lives, read_schedule};
 use cb_page::Limits;
-use cb_transcript::{LivesTranscript, Transcript, Verdict, check_serial};
+use cb_transcript::{
+    Event, LivesEvent, LivesTranscript, ScheduleFault, Transcript, Verdict, check_serial,
+    read_lives, read_schedule,
+};
 use cb_twoq::TwoQ;
 use cb_world::{Lives, World};
 use std::alloc::{AllocError, Global};

@@ -13,25 +13,26 @@ use Rattle.cb_page.specs.Faults.{first_fault}
 use Rattle.cb_page.specs.Numbers.{IsNumber}
 use Rattle.cb_page.specs.Rising.{RisesFrom}
 use Rattle.cb_page.proofs.Ranges.{number_tests, rises_tests}
-use Rattle.cb_frame_types.specs.declared.fields.Fields.{Fields}
-use Rattle.cb_frame_types.specs.declared.fields.Fields.TheVariants as fields
-use Rattle.cb_frame_types.specs.declared.frame.Frame.{Frame}
-use Rattle.cb_frame_types.specs.declared.frame.Body.{Body}
-use Rattle.cb_frame_types.specs.declared.frame.Body.TheVariants as body
-use Rattle.cb_frame_types.specs.declared.frame.ShortBody.{ShortBody}
-use Rattle.cb_frame_types.specs.declared.frame.ShortBody.TheVariants as short
-use Rattle.cb_frame_types.specs.declared.kind.Kind.{Kind}
-use Rattle.cb_frame_types.specs.declared.kind.Kind.TheVariants as kind
-use Rattle.cb_frame_types.specs.declared.version.FrameVersion.{FrameVersion}
-use Rattle.cb_frame_types.specs.declared.version.FrameVersion.TheVariants.{One, Two}
-use Rattle.cb_frame_types.specs.declared.writes.Write.{Write}
+use Rattle.cb_frame.specs.declared.fields.Fields.{Fields}
+use Rattle.cb_frame.specs.declared.fields.Fields.TheVariants as fields
+use Rattle.cb_frame.specs.declared.frame.Frame.{Frame}
+use Rattle.cb_frame.specs.declared.frame.Body.{Body}
+use Rattle.cb_frame.specs.declared.frame.Body.TheVariants as body
+use Rattle.cb_frame.specs.declared.frame.ShortBody.{ShortBody}
+use Rattle.cb_frame.specs.declared.frame.ShortBody.TheVariants as short
+use Rattle.cb_frame.specs.declared.kind.Kind.{Kind}
+use Rattle.cb_frame.specs.declared.kind.Kind.TheVariants as kind
+use Rattle.cb_frame.specs.declared.version.FrameVersion.{FrameVersion}
+use Rattle.cb_frame.specs.declared.version.FrameVersion.TheVariants.{One, Two}
+use Rattle.cb_frame.specs.declared.writes.Write.{Write}
 use Rattle.cb_frame.specs.declared.fault.FrameFault.{FrameFault}
 use Rattle.cb_frame.specs.declared.fault.FrameFault.TheVariants as fault
-use Rattle.cb_frame_types.specs.Fields.{FieldsFit, fields_fit, fields_of, fields_spelling, word}
-use Rattle.cb_frame_types.specs.Grammar.{WriteFits, page_of, ShortFits, BodyFits, Fits, IsFrameIn, IsFrameInSome}
-use Rattle.cb_frame_types.specs.Kinds.{kind_of_short, kind_of_body, code_of}
-use Rattle.cb_frame_types.specs.Spelling.{page_spelling, write_spelling, body_spelling, spelling_in}
-use Rattle.cb_frame_types.specs.Versions.{has_kind, has_size, size_length, size_width, version_byte}
+use Rattle.cb_frame.specs.Fields.{FieldsFit, fields_fit, fields_of, fields_spelling, word}
+use Rattle.cb_frame.specs.Grammar.{WriteFits, page_of, ShortFits, BodyFits, Fits, IsFrameIn}
+use Rattle.cb_frame.specs.Grammar.{IsFrameInSome}
+use Rattle.cb_frame.specs.Kinds.{kind_of_short, kind_of_body, code_of}
+use Rattle.cb_frame.specs.Spelling.{page_spelling, write_spelling, body_spelling, spelling_in}
+use Rattle.cb_frame.specs.Versions.{has_kind, has_size, size_length, size_width, version_byte}
 use Rattle.cb_frame.specs.Checks.{number, version_of, kind_of, count_in, can_be_length, short_length, sizes_fit, parts_fit, write_in, write_length, writes_at, short_at, body_at, is_write, numbers_fit, pages_rise, body_length, body_bytes, is_sender, frame_at, causes_by_kind, causes_by_version, causes, version_in_front, frame_in_front, fault_in_bytes, Gives}
 use Rattle.cb_frame.proofs.Found.{frame_found}
 use Rattle.cb_frame.proofs.ReadAgain.{IsBytes, next_cause, again16, again32, again64, length-size, number-append, size_again}

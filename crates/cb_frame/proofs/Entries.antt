@@ -2,16 +2,16 @@
 use Rattle.std.proofs.Common.{◌≡◌, ℕ, suc, ◌+◌, ◌-◌, ◌*◌, ◌<◌, ◌≤◌, ◌&&◌, true, nat_le, map, List, [], ◌∷◌, ◌++◌, drop, refl, sym, ap, ◌∙◌, append_assoc, arith}
 use Rattle.std.specs.Prelude.{◌==◌}
 use Rattle.std.proofs.lemmas.List.{append-nil}
-use Rattle.cb_frame_types.specs.declared.version.FrameVersion.{FrameVersion}
-use Rattle.cb_frame_types.specs.declared.writes.Write.{Write}
+use Rattle.cb_frame.specs.declared.version.FrameVersion.{FrameVersion}
+use Rattle.cb_frame.specs.declared.writes.Write.{Write}
 use Rattle.std.specs.Int.{w32}
 use Rattle.std.specs.List.{list_all}
 use Rattle.std.proofs.lemmas.Bool.{and_parts, ltb-true}
 use Rattle.cb_page.specs.Bounds.{Bounds}
 use Rattle.cb_page.specs.Rising.{rises_from}
 use Rattle.cb_frame.specs.Checks.{number, is_write, sizes_fit, write_in, write_length, writes_at}
-use Rattle.cb_frame_types.specs.Grammar.{page_of}
-use Rattle.cb_frame_types.specs.Versions.{size_width}
+use Rattle.cb_frame.specs.Grammar.{page_of}
+use Rattle.cb_frame.specs.Versions.{size_width}
 
 pub sizes_fit_step : (v : FrameVersion) (page_size count i : ℕ) (bytes : List ℕ) → i < count
     → sizes_fit v page_size (count - i) bytes ≡ (number (size_width v) 12 bytes == page_size && sizes_fit v page_size (count - (i + 1)) (drop (write_length v page_size) bytes))

@@ -10,17 +10,17 @@ use Rattle.std.proofs.lemmas.List.Concat.{flat_map-cons}
 use Rattle.cb_page.specs.Bounds.{Bounds}
 use Rattle.cb_page.specs.Faults.{first_fault}
 use Rattle.cb_page.proofs.Ranges.{number_tells, rises_tells}
-use Rattle.cb_frame_types.specs.declared.fields.Fields.{Fields}
-use Rattle.cb_frame_types.specs.declared.fields.Fields.TheVariants as fields
-use Rattle.cb_frame_types.specs.declared.kind.Kind.{Kind}
-use Rattle.cb_frame_types.specs.declared.kind.Kind.TheVariants as kind
-use Rattle.cb_frame_types.specs.declared.version.FrameVersion.{FrameVersion}
+use Rattle.cb_frame.specs.declared.fields.Fields.{Fields}
+use Rattle.cb_frame.specs.declared.fields.Fields.TheVariants as fields
+use Rattle.cb_frame.specs.declared.kind.Kind.{Kind}
+use Rattle.cb_frame.specs.declared.kind.Kind.TheVariants as kind
+use Rattle.cb_frame.specs.declared.version.FrameVersion.{FrameVersion}
 use Rattle.cb_frame.specs.declared.fault.FrameFault.TheVariants as fault
-use Rattle.cb_frame_types.specs.Fields.{FieldsFit, fields_fit, fields_of, fields_spelling, word}
-use Rattle.cb_frame_types.specs.Grammar.{WriteFits, BodyFits, Fits, IsFrameIn}
-use Rattle.cb_frame_types.specs.Kinds.{kind_of_body, code_of, is_short}
-use Rattle.cb_frame_types.specs.Spelling.{page_spelling, write_spelling, body_spelling, spelling_in}
-use Rattle.cb_frame_types.specs.Versions.{has_kind, has_size, size_length, size_width, version_byte}
+use Rattle.cb_frame.specs.Fields.{FieldsFit, fields_fit, fields_of, fields_spelling, word}
+use Rattle.cb_frame.specs.Grammar.{WriteFits, BodyFits, Fits, IsFrameIn}
+use Rattle.cb_frame.specs.Kinds.{kind_of_body, code_of, is_short}
+use Rattle.cb_frame.specs.Spelling.{page_spelling, write_spelling, body_spelling, spelling_in}
+use Rattle.cb_frame.specs.Versions.{has_kind, has_size, size_length, size_width, version_byte}
 use Rattle.cb_frame.specs.Checks.{number, version_of, kind_of, count_in, can_be_length, short_length, sizes_fit, parts_fit, write_in, write_length, writes_at, short_at, commit_at, granted_at, body_at, is_write, numbers_fit, pages_rise, body_length, body_bytes, is_sender, frame_at, causes_by_kind, causes_by_version, causes, version_in_front, frame_in_front}
 use Rattle.cb_frame.proofs.ReadAgain.{IsBytes, IsBytes-drop, IsBytes-take, wide16, wide32, wide64, number_found, size_found, none_first, not_false}
 

@@ -5,11 +5,11 @@ use Rattle.std.proofs.lemmas.Bool.{cases_lt}
 use Rattle.std.proofs.lemmas.List.{take-append-drop, drop-drop, length-take, length-take-le, length-drop, get_or-drop, get_or-take, get_or_past}
 use Rattle.std.proofs.lemmas.Nat.{be_bytes_2, be_bytes_4, be_bytes_8, from_be_bytes-to_be_bytes_2, from_be_bytes-to_be_bytes_4, from_be_bytes-to_be_bytes_8}
 use Rattle.cb_page.specs.Faults.{first_fault}
-use Rattle.cb_frame_types.specs.declared.version.FrameVersion.{FrameVersion}
-use Rattle.cb_frame_types.specs.declared.version.FrameVersion.TheVariants.{One, Two}
+use Rattle.cb_frame.specs.declared.version.FrameVersion.{FrameVersion}
+use Rattle.cb_frame.specs.declared.version.FrameVersion.TheVariants.{One, Two}
 use Rattle.std.proofs.lemmas.Bool.{leb-true}
 use Rattle.cb_frame.specs.Checks.{number}
-use Rattle.cb_frame_types.specs.Versions.{has_size, size_length, size_width}
+use Rattle.cb_frame.specs.Versions.{has_size, size_length, size_width}
 
 abbrev pub IsBytes : List ℕ → Type 0
 IsBytes bytes = (i : ℕ) → get_or bytes i 0 < 256

@@ -5,12 +5,12 @@ use Rattle.std.proofs.Math.Nat.{mul-le-mul_left, mul-le-mul_right, le_trans}
 use Rattle.std.proofs.lemmas.List.Elements.{All-from_recursion}
 use Rattle.cb_page.specs.Bounds.{Bounds, AreInRange}
 use Rattle.cb_page.specs.Rising.{IsRising}
-use Rattle.cb_frame_types.specs.declared.frame.Body.{Body}
-use Rattle.cb_frame_types.specs.declared.frame.Body.TheVariants as body
-use Rattle.cb_frame_types.specs.declared.writes.Write.{Write}
-use Rattle.cb_frame_types.specs.Grammar.{WriteFits, page_of, BodyFitsSome, WritesFitSome}
-use Rattle.cb_frame_types.specs.declared.version.FrameVersion.TheVariants.{Two}
-use Rattle.cb_frame_types.specs.Spelling.{body_spelling, write_spelling}
+use Rattle.cb_frame.specs.declared.frame.Body.{Body}
+use Rattle.cb_frame.specs.declared.frame.Body.TheVariants as body
+use Rattle.cb_frame.specs.declared.writes.Write.{Write}
+use Rattle.cb_frame.specs.Grammar.{WriteFits, page_of, BodyFitsSome, WritesFitSome}
+use Rattle.cb_frame.specs.declared.version.FrameVersion.TheVariants.{Two}
+use Rattle.cb_frame.specs.Spelling.{body_spelling, write_spelling}
 use Rattle.cb_frame.proofs.Again.{few_rise, length-granted, length-writes}
 
 each_small : (l : Bounds) (ws : List Write) → AreInRange l → AllByRecursion (WriteFits l) ws → AllByRecursion (λ w. length w.bytes < 2 ^ 32) ws

@@ -9,22 +9,22 @@ use Rattle.std.specs.Int.{Width, w16, w32, w64, byte_len, from_be_bytes}
 use Rattle.cb_page.specs.Bounds.{Bounds}
 use Rattle.cb_page.specs.Numbers.{is_number, is_version}
 use Rattle.cb_page.specs.Rising.{is_rising}
-use Rattle.cb_frame_types.specs.declared.frame.Frame.{Frame}
-use Rattle.cb_frame_types.specs.declared.frame.Body.{Body}
-use Rattle.cb_frame_types.specs.declared.frame.Body.TheVariants as body
-use Rattle.cb_frame_types.specs.declared.frame.ShortBody.{ShortBody}
-use Rattle.cb_frame_types.specs.declared.frame.ShortBody.TheVariants as short
-use Rattle.cb_frame_types.specs.declared.kind.Kind.{Kind}
-use Rattle.cb_frame_types.specs.declared.kind.Kind.TheVariants as kind
-use Rattle.cb_frame_types.specs.declared.version.FrameVersion.{FrameVersion}
-use Rattle.cb_frame_types.specs.declared.version.FrameVersion.TheVariants.{One, Two}
-use Rattle.cb_frame_types.specs.declared.writes.Write.{Write}
+use Rattle.cb_frame.specs.declared.frame.Frame.{Frame}
+use Rattle.cb_frame.specs.declared.frame.Body.{Body}
+use Rattle.cb_frame.specs.declared.frame.Body.TheVariants as body
+use Rattle.cb_frame.specs.declared.frame.ShortBody.{ShortBody}
+use Rattle.cb_frame.specs.declared.frame.ShortBody.TheVariants as short
+use Rattle.cb_frame.specs.declared.kind.Kind.{Kind}
+use Rattle.cb_frame.specs.declared.kind.Kind.TheVariants as kind
+use Rattle.cb_frame.specs.declared.version.FrameVersion.{FrameVersion}
+use Rattle.cb_frame.specs.declared.version.FrameVersion.TheVariants.{One, Two}
+use Rattle.cb_frame.specs.declared.writes.Write.{Write}
 use Rattle.cb_frame.specs.declared.fault.FrameFault.{FrameFault}
 use Rattle.cb_frame.specs.declared.fault.FrameFault.TheVariants as fault
-use Rattle.cb_frame_types.specs.Fields.{fields_fit, fields_length, fields_of}
-use Rattle.cb_frame_types.specs.Grammar.{page_of}
-use Rattle.cb_frame_types.specs.Kinds.{is_short}
-use Rattle.cb_frame_types.specs.Versions.{has_kind, has_size, size_length, size_width}
+use Rattle.cb_frame.specs.Fields.{fields_fit, fields_length, fields_of}
+use Rattle.cb_frame.specs.Grammar.{page_of}
+use Rattle.cb_frame.specs.Kinds.{is_short}
+use Rattle.cb_frame.specs.Versions.{has_kind, has_size, size_length, size_width}
 
 -- ---- what stands where
 

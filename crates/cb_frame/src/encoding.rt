@@ -2,16 +2,15 @@
 ghost use Rattle.std.specs.Prelude.{◌≡◌, ◌+◌, ◌<◌, ◌≤◌, ◌*◌, ◌^◌, ◌∷◌, ◌++◌, length, OnOk, IfOk};
 ghost use Rattle.std.specs.Int.{w16, w32, w64};
 ghost use Rattle.std.specs.List.{flat_map, All};
-ghost use Rattle.cb_frame_types.specs.Grammar.{FitsSome, BodyFitsSome, WritesFitSome};
-ghost use Rattle.cb_frame_types.specs.declared.frame.Body.TheVariants.{Granted};
-ghost use Rattle.cb_frame_types.specs.Kinds.{code_of, kind_of_body};
-ghost use Rattle.cb_frame_types.specs.declared.version.FrameVersion.TheVariants.{Two};
-ghost use Rattle.cb_frame_types.specs.Fields.{word};
-ghost use Rattle.cb_frame_types.specs.Spelling.{spelling, body_spelling, write_spelling};
-ghost use Rattle.cb_frame_types.specs.Spelling.{page_spelling};
+ghost use Rattle.cb_frame.specs.Grammar.{FitsSome, BodyFitsSome, WritesFitSome};
+ghost use Rattle.cb_frame.specs.declared.frame.Body.TheVariants.{Granted};
+ghost use Rattle.cb_frame.specs.Kinds.{code_of, kind_of_body};
+ghost use Rattle.cb_frame.specs.declared.version.FrameVersion.TheVariants.{Two};
+ghost use Rattle.cb_frame.specs.Fields.{word};
+ghost use Rattle.cb_frame.specs.Spelling.{spelling, body_spelling, write_spelling};
+ghost use Rattle.cb_frame.specs.Spelling.{page_spelling};
 
-use crate::{Body, Frame, FrameVersion, Kind, Write};
-use cb_frame_types::{put_u16, put_u32, put_u64};
+use crate::{Body, Frame, FrameVersion, Kind, Write, put_u16, put_u32, put_u64};
 use cb_page::{ClientNo, GrantNo, Incarnation, PageNo, Version};
 use std::alloc::{AllocError, Global};
 
@@ -20,7 +19,7 @@ const HEADER: usize = 16;
 
 /// The bytes of a frame. It is refused only if memory is, which it takes once, as much as the bytes
 /// need.
-#[tactic(auto, unfolding(cb_frame_types::specs::Spelling::spelling, cb_frame_types::specs::Spelling::spelling_in))]
+#[tactic(auto, unfolding(crate::specs::Spelling::spelling, crate::specs::Spelling::spelling_in))]
 pub fn encode(alloc: Global, frame: &Frame) -> Result<Vec<u8>, AllocError>
     requires { FitsSome frame.now }
     ensures { IfOk result (λ v. v.items ≡ spelling frame.now) }
@@ -42,7 +41,7 @@ pub fn encode(alloc: Global, frame: &Frame) -> Result<Vec<u8>, AllocError>
 /// what [`encode`] writes, but the page isn't copied first.
 ///
 /// It is refused only if memory is, which it takes once, as much as the bytes need.
-#[tactic(auto, using(crate::proofs::Sizes::granted_length, std::proofs::Common::append_assoc), unfolding(cb_frame_types::specs::Spelling::spelling, cb_frame_types::specs::Spelling::spelling_in))]
+#[tactic(auto, using(crate::proofs::Sizes::granted_length, std::proofs::Common::append_assoc), unfolding(crate::specs::Spelling::spelling, crate::specs::Spelling::spelling_in))]
 pub fn encode_granted(
     alloc: Global,
     client: ClientNo,
@@ -67,7 +66,7 @@ pub fn encode_granted(
 }
 
 /// The length of the body's bytes.
-#[tactic(auto, unfolding(cb_frame_types::specs::Fields::word, cb_frame_types::specs::Spelling::page_spelling, cb_frame_types::specs::Spelling::body_spelling))]
+#[tactic(auto, unfolding(crate::specs::Fields::word, crate::specs::Spelling::page_spelling, crate::specs::Spelling::body_spelling))]
 fn body_size(body: &Body) -> usize
     requires { BodyFitsSome body.now }
     ensures value { result ≡ length (body_spelling Two body.now) }
@@ -100,7 +99,7 @@ fn writes_size(writes: &[Write]) -> usize
     }
 }
 
-#[tactic(auto, using(std::proofs::Common::append_assoc), unfolding(cb_frame_types::specs::Spelling::body_spelling))]
+#[tactic(auto, using(std::proofs::Common::append_assoc), unfolding(crate::specs::Spelling::body_spelling))]
 fn put_body(out: &mut Vec<u8>, body: &Body) -> Result<(), AllocError>
     requires { BodyFitsSome body.now }
     ensures { OnOk result (out.new.items ≡ out.old.items ++ body_spelling Two body.now) }
@@ -124,7 +123,7 @@ fn put_body(out: &mut Vec<u8>, body: &Body) -> Result<(), AllocError>
     Ok(())
 }
 
-#[tactic(auto, using(std::proofs::Common::append_assoc), unfolding(cb_frame_types::specs::Spelling::body_spelling))]
+#[tactic(auto, using(std::proofs::Common::append_assoc), unfolding(crate::specs::Spelling::body_spelling))]
 fn put_granted(
     out: &mut Vec<u8>,
     page: PageNo,
@@ -171,7 +170,7 @@ fn put_writes(out: &mut Vec<u8>, writes: &[Write]) -> Result<(), AllocError>
     Ok(())
 }
 
-#[tactic(auto, using(std::proofs::Common::append_assoc), unfolding(cb_frame_types::specs::Spelling::write_spelling))]
+#[tactic(auto, using(std::proofs::Common::append_assoc), unfolding(crate::specs::Spelling::write_spelling))]
 fn put_write(out: &mut Vec<u8>, write: &Write) -> Result<(), AllocError>
     requires { length write.now.bytes < 2 ^ 32 }
     ensures { OnOk result (out.new.items ≡ out.old.items ++ write_spelling Two write.now) }
@@ -180,7 +179,7 @@ fn put_write(out: &mut Vec<u8>, write: &Write) -> Result<(), AllocError>
     put_page(out, write.bytes.as_slice())
 }
 
-#[tactic(auto, using(std::proofs::Common::append_assoc), unfolding(cb_frame_types::specs::Spelling::page_spelling))]
+#[tactic(auto, using(std::proofs::Common::append_assoc), unfolding(crate::specs::Spelling::page_spelling))]
 fn put_page(out: &mut Vec<u8>, bytes: &[u8]) -> Result<(), AllocError>
     requires { length bytes.now < 2 ^ 32 }
     ensures { OnOk result (out.new.items ≡ out.old.items ++ page_spelling Two bytes.now) }

@@ -5,13 +5,27 @@
 //! its incarnation (eight) and the length of the body (four). [`Frame::fits`] says which frames
 //! there are under given limits; each of them has one spelling in a version. [`encode`] writes the
 //! newest version, [`decode`] reads both, whatever follows the frame.
+//!
+//! Frames as values: the messages between a client and the server, their kinds, the versions of
+//! their format, and the numbers of their bodies. Their bytes are defined here too (`specs/`).
 #![tactic(auto)]
 
 mod decoding;
 mod encoding;
 mod fault;
+mod fields;
+mod frame;
+mod kind;
+mod version;
+mod words;
+mod writes;
 
-pub use cb_frame_types::{Body, Frame, FrameVersion, Kind, ShortBody, ShortFrame, Write, Writes};
 pub use decoding::{decode, one_spelling};
 pub use encoding::{encode, encode_granted};
 pub use fault::{BytesFault, FrameFault};
+pub use fields::Fields;
+pub use frame::{Body, Frame, ShortBody, ShortFrame};
+pub use kind::Kind;
+pub use version::FrameVersion;
+pub use words::{put_u16, put_u32, put_u64};
+pub use writes::{Write, Writes};

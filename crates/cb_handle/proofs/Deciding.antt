@@ -9,7 +9,7 @@ use Rattle.cb_client.specs.CallAnswers.{Answers}
 use Rattle.cb_client.specs.declared.client_fault.ClientFault.{ClientFault}
 use Rattle.cb_client.specs.declared.client_fault.ClientFault.TheVariants as client
 use Rattle.cb_client_core.specs.ClientState.{ClientState, client_of}
-use Rattle.cb_frame_types.specs.declared.frame.Frame.{Frame}
+use Rattle.cb_frame.specs.declared.frame.Frame.{Frame}
 use Rattle.cb_handle.specs.Causes.{Decides, after_fetch, by_table, committing_may, fault_of, memory}
 use Rattle.cb_handle.specs.declared.refusal.Refusal.{Refusal}
 use Rattle.cb_handle.specs.declared.refusal.Refusal.TheVariants as refusal

@@ -1,8 +1,8 @@
 -- A client that went away is greeted for.
 use Rattle.std.proofs.Common.{◌≡◌, ℕ, List, subst}
-use Rattle.cb_frame_types.specs.declared.frame.Body.TheVariants.{Short}
-use Rattle.cb_frame_types.specs.declared.frame.Frame.{Frame}
-use Rattle.cb_frame_types.specs.declared.frame.ShortBody.TheVariants as short
+use Rattle.cb_frame.specs.declared.frame.Body.TheVariants.{Short}
+use Rattle.cb_frame.specs.declared.frame.Frame.{Frame}
+use Rattle.cb_frame.specs.declared.frame.ShortBody.TheVariants as short
 use Rattle.cb_handle.specs.Servers.{Does, Leaves, ServerValue, next_incarnation}
 use Rattle.cb_protocol.specs.AnyMessages.{MessageComes}
 use Rattle.cb_protocol.specs.Messages.{Hello, Message}

@@ -8,9 +8,9 @@ use Rattle.cb_client.specs.declared.client_fault.ClientFault.{ClientFault}
 use Rattle.cb_client_core.specs.ClientState.{ClientState, IsClient, ask_of, client_of}
 use Rattle.cb_client_core.specs.declared.stage.PendingAsk.{PendingAsk}
 use Rattle.cb_client_core.specs.declared.stage.PendingAsk.TheVariants as asks
-use Rattle.cb_frame_types.specs.declared.frame.Body.TheVariants.{Short}
-use Rattle.cb_frame_types.specs.declared.frame.Frame.{Frame}
-use Rattle.cb_frame_types.specs.declared.frame.ShortFrame.{ShortFrame}
+use Rattle.cb_frame.specs.declared.frame.Body.TheVariants.{Short}
+use Rattle.cb_frame.specs.declared.frame.Frame.{Frame}
+use Rattle.cb_frame.specs.declared.frame.ShortFrame.{ShortFrame}
 use Rattle.cb_outbox.specs.Messages.{messages_of}
 use Rattle.cb_protocol.proofs.Cases.{call_accepted, call_refused}
 use Rattle.cb_protocol.proofs.ClientRanges.{sized}

@@ -10,8 +10,8 @@ use Rattle.cb_frame.proofs.Again.{spelled_again}
 use Rattle.cb_frame.specs.Checks.{causes, fault_in_bytes, frame_in_front, has_pages, kind_of}
 use Rattle.cb_frame.specs.declared.fault.FrameFault.{FrameFault}
 use Rattle.cb_frame.specs.declared.fault.FrameFault.TheVariants as reading
-use Rattle.cb_frame_types.specs.Grammar.{IsFrameInSome}
-use Rattle.cb_frame_types.specs.declared.frame.Frame.{Frame}
+use Rattle.cb_frame.specs.Grammar.{IsFrameInSome}
+use Rattle.cb_frame.specs.declared.frame.Frame.{Frame}
 use Rattle.cb_handle.specs.Causes.{Decides, NeedsRoom, after_fetch, client_take_may, in_bytes, server_take_may}
 use Rattle.cb_handle.specs.Faults.{client_number, frame_number}
 use Rattle.cb_handle.specs.Servers.{ServerValue}

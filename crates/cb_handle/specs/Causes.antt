@@ -11,8 +11,8 @@ use Rattle.cb_client_core.specs.ClientState.{ClientState, client_of}
 use Rattle.cb_client_core.specs.Room.{brings_in, room_at}
 use Rattle.cb_commit.specs.Batches.{BatchState}
 use Rattle.cb_frame.specs.Checks.{causes, frame_in_front, has_pages, kind_of}
-use Rattle.cb_frame_types.specs.Spelling.{spelling}
-use Rattle.cb_frame_types.specs.declared.frame.Frame.{Frame}
+use Rattle.cb_frame.specs.Spelling.{spelling}
+use Rattle.cb_frame.specs.declared.frame.Frame.{Frame}
 use Rattle.cb_handle.specs.Faults.{number_of}
 use Rattle.cb_handle.specs.Opened.{OpeningState}
 use Rattle.cb_handle.specs.Servers.{ServerValue, next_incarnation, page_of_batch, server_of}

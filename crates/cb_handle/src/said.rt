@@ -3,7 +3,7 @@ ghost use Rattle.std.specs.Prelude.{◌≡◌, ◌≢◌, ◌≤◌, ◌↔◌, 
 ghost use Rattle.std.specs.Prelude.{IsTrue, OnErr, Option, Some, drop, length, slice_get, take};
 ghost use Rattle.std.specs.List.{AllByRecursion};
 ghost use Rattle.std.specs.Option.{option_copied};
-ghost use Rattle.cb_frame_types.specs.Grammar.{Fits, FitsSome};
+ghost use Rattle.cb_frame.specs.Grammar.{Fits, FitsSome};
 ghost use Rattle.cb_handle.specs.Causes.{Decides, after_fetch, said_cause, said_may};
 ghost use Rattle.cb_handle.specs.Fetching.{Fetches};
 ghost use Rattle.cb_handle.specs.declared.refusal.Refusal.{Refusal as Why};
@@ -37,8 +37,8 @@ impl Drop for Said {
 impl Model for Said {
     ghost use Rattle.std.specs.List.{AllByRecursion};
     ghost use Rattle.std.specs.Prelude.{List, ◌++◌, option_to_list, reverse};
-    ghost use Rattle.cb_frame_types.specs.Grammar.{FitsSome};
-    ghost use Rattle.cb_frame_types.specs.declared.frame.Frame.{Frame};
+    ghost use Rattle.cb_frame.specs.Grammar.{FitsSome};
+    ghost use Rattle.cb_frame.specs.declared.frame.Frame.{Frame};
 
     ghost Value = { List Frame };
 

@@ -1,7 +1,7 @@
 //! One committed transaction.
 
+use cb_commit::Hollow;
 use cb_page::{ClientNo, Incarnation, PageNo, TxnNo, Version};
-use cb_past::Hollow;
 use std::alloc::Global;
 
 /// A page that a committed transaction read, at its version then.

@@ -1,8 +1,7 @@
 //! A server that restarts: what is lost with its life, and which restarts are refused.
 use cb_commit::Store;
-use cb_event::read_schedule;
 use cb_page::{Incarnation, Limits};
-use cb_transcript::{RestartAnswer, RestartRefusal, Verdict, check_serial};
+use cb_transcript::{RestartAnswer, RestartRefusal, Verdict, check_serial, read_schedule};
 use cb_twoq::TwoQ;
 use cb_world::Lives;
 use std::alloc::Global;

@@ -2,14 +2,13 @@
 
 use cb_client::ClientFault;
 use cb_console::{ConfigFault, Key, ReadFault, RunFault};
-use cb_event::ScheduleFault;
 use cb_frame::{BytesFault, FrameFault};
 use cb_page::LimitFault;
 use cb_pool::PoolFault;
 use cb_server::ServerFault;
 use cb_shelf::ShelfFault;
 use cb_test_parts::printed::are_printed;
-use cb_transcript::Refusal;
+use cb_transcript::{Refusal, ScheduleFault};
 use cb_twoq::ChooseFault;
 use std::alloc::Global;
 

@@ -1,7 +1,7 @@
 -- The frames that answer a callback.
-use Rattle.cb_frame_types.specs.declared.frame.Body.TheVariants.{Short}
-use Rattle.cb_frame_types.specs.declared.frame.Frame.{Frame}
-use Rattle.cb_frame_types.specs.declared.frame.ShortBody.{ShortBody}
+use Rattle.cb_frame.specs.declared.frame.Body.TheVariants.{Short}
+use Rattle.cb_frame.specs.declared.frame.Frame.{Frame}
+use Rattle.cb_frame.specs.declared.frame.ShortBody.{ShortBody}
 use Rattle.cb_locks.specs.declared.callback_due.CallbackDue.{CallbackDue}
 
 -- the frame of the client that was called back, of the incarnation that was

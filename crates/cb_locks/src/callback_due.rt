@@ -2,8 +2,8 @@
 ghost use Rattle.std.specs.Prelude.{◌≡◌, ℕ, ◌<◌, IfSome, IsSome, length, MatchOption};
 ghost use Rattle.cb_locks.specs.Locks.{with_noted};
 ghost use Rattle.cb_locks.specs.Frames.{saying};
-ghost use Rattle.cb_frame_types.specs.declared.frame.ShortBody.TheVariants.{Downgraded, GiveBack};
-ghost use Rattle.cb_frame_types.specs.declared.frame.ShortBody.TheVariants.{InUse};
+ghost use Rattle.cb_frame.specs.declared.frame.ShortBody.TheVariants.{Downgraded, GiveBack};
+ghost use Rattle.cb_frame.specs.declared.frame.ShortBody.TheVariants.{InUse};
 
 use crate::ReadLocks;
 use cb_frame::{Frame, ShortBody, ShortFrame};

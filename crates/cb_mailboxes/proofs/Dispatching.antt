@@ -5,8 +5,8 @@ use Rattle.std.specs.List.{AllByRecursion}
 use Rattle.cb_mailboxes.proofs.Posting.{posted, posted_anew, posted_nothing, posted_to_others, said_to_others}
 use Rattle.cb_mailboxes.specs.Dispatching.{DispatcherState, Everybody, IsUnchanged, Others, Posts, emptied, mailbox_of, server_of}
 use Rattle.cb_mailboxes.specs.Mailboxes.{AsBefore, MailboxesState, current_in, is_said_to, mailbox_in}
-use Rattle.cb_frame_types.specs.Grammar.{Fits}
-use Rattle.cb_frame_types.specs.declared.frame.Frame.{Frame}
+use Rattle.cb_frame.specs.Grammar.{Fits}
+use Rattle.cb_frame.specs.declared.frame.Frame.{Frame}
 use Rattle.cb_server_state.specs.States as states
 use Rattle.cb_server_state.specs.declared.server_state.ServerState.{ServerState}
 use Rattle.cb_outbox.specs.Messages.{messages_of}

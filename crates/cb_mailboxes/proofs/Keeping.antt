@@ -6,7 +6,7 @@ use Rattle.std.proofs.lemmas.Bool.{cases_lt}
 use Rattle.std.proofs.lemmas.List.{append-nil, get_or-replicate, get_or_past, length-replicate}
 use Rattle.std.proofs.lemmas.List.{length-set}
 use Rattle.cb_commit.specs.Stores.{IsSound, StoreState}
-use Rattle.cb_frame_types.specs.declared.frame.Frame.{Frame}
+use Rattle.cb_frame.specs.declared.frame.Frame.{Frame}
 use Rattle.cb_mailboxes.proofs.Dispatching.{by_server, dismisses, greets, posts, silences}
 use Rattle.cb_mailboxes.proofs.Dispatching.{unchanged, unchanged_too}
 use Rattle.cb_mailboxes.proofs.Mail.{mail_anew, mail_collected, mail_dismissed, mail_posted}

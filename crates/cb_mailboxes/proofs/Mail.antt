@@ -7,7 +7,7 @@ use Rattle.std.specs.Prelude.{IfSome}
 use Rattle.std.proofs.lemmas.Bool.{cases_eq}
 use Rattle.std.proofs.lemmas.Bool.Decides.{nat_tests}
 use Rattle.cb_commit.specs.Stores.{IsSound, StoreState}
-use Rattle.cb_frame_types.specs.declared.frame.Frame.{Frame}
+use Rattle.cb_frame.specs.declared.frame.Frame.{Frame}
 use Rattle.cb_laws.specs.RowVersions.{GrantedSent, RowVersions}
 use Rattle.cb_mailboxes.specs.Dispatching.{DispatcherState, Everybody, IsUnchanged, Others, Posts}
 use Rattle.cb_mailboxes.specs.Dispatching.{emptied, mailbox_of, server_of, without_oldest}

@@ -10,7 +10,7 @@ use Rattle.std.proofs.lemmas.List.{take_more, reverse-append, reverse-reverse, a
 use Rattle.cb_mailboxes.specs.Dispatching.{emptied, without_oldest}
 use Rattle.cb_mailboxes.specs.Mailboxes.{AsBefore, Moves, MailboxesState, addressed, is_for, is_said_to, mailbox_in}
 use Rattle.cb_page.specs.Clients.{Clients}
-use Rattle.cb_frame_types.specs.declared.frame.Frame.{Frame}
+use Rattle.cb_frame.specs.declared.frame.Frame.{Frame}
 use Rattle.cb_server_state.specs.Questions.{admission_in}
 use Rattle.cb_links.specs.declared.sessions.Admission.TheVariants.{Stale, Current, Unknown}
 use Rattle.cb_protocol.specs.Server.{Server}

@@ -2,7 +2,7 @@
 use Rattle.std.specs.Prelude.{◌≡◌, ◌≢◌, ℕ, ◌==◌, ◌||◌, if◌then◌else◌, List, [], ◌++◌, drop}
 use Rattle.cb_mailboxes.specs.Mailboxes.{MailboxesState, addressed, current_in, is_said_to}
 use Rattle.cb_mailboxes.specs.Mailboxes.{mailbox_in}
-use Rattle.cb_frame_types.specs.declared.frame.Frame.{Frame}
+use Rattle.cb_frame.specs.declared.frame.Frame.{Frame}
 use Rattle.cb_page.specs.Clients.{Clients, has}
 use Rattle.cb_outbox.specs.Messages.{messages_of}
 use Rattle.cb_protocol.specs.AnyMessages.{Input}

@@ -1,6 +1,6 @@
 -- Where the frames in the mailboxes come from, and what they bring.
 use Rattle.std.specs.Prelude.{◌≡◌, ◌⊎◌, ℕ, List}
-use Rattle.cb_frame_types.specs.declared.frame.Frame.{Frame}
+use Rattle.cb_frame.specs.declared.frame.Frame.{Frame}
 use Rattle.cb_laws.specs.RowVersions.{HasRow, IsAsStored, WroteSince}
 use Rattle.cb_mailboxes.specs.Dispatching.{DispatcherState, mailbox_of, server_of}
 use Rattle.cb_outbox.specs.Messages.{body_of, message_of}

@@ -6,7 +6,7 @@ ghost use Rattle.cb_commit.specs.Stores.{IsOf};
 ghost use Rattle.cb_mailboxes.specs.Dispatching.{Everybody, IsUnchanged, Others, Posts, emptied};
 ghost use Rattle.cb_mailboxes.specs.Dispatching.{forgot, mailbox_of, server_of, untold_in};
 ghost use Rattle.cb_mailboxes.specs.Dispatching.{with_untold, without_oldest};
-ghost use Rattle.cb_frame_types.specs.Grammar.{Fits};
+ghost use Rattle.cb_frame.specs.Grammar.{Fits};
 ghost use Rattle.cb_mailboxes.specs.Mail.{HasMail, IsMailFor};
 ghost use Rattle.cb_mailboxes.specs.Mailboxes.{AsBefore, IsNobody, current_in};
 ghost use Rattle.cb_outbox.specs.Messages.{messages_of};

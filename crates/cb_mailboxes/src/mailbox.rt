@@ -16,7 +16,7 @@ pub(crate) struct Mailbox {
 
 impl Model for Mailbox {
     ghost use Rattle.std.specs.Prelude.{List};
-    ghost use Rattle.cb_frame_types.specs.declared.frame.Frame.{Frame};
+    ghost use Rattle.cb_frame.specs.declared.frame.Frame.{Frame};
 
     ghost Value = { List Frame };
 

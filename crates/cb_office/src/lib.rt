@@ -14,7 +14,7 @@
 //! [`Office::skip_work`], so that the flusher doesn't wait for it.
 //!
 //! The promise of each call stands in the call's own crate: `cb_hands`, `cb_admission`,
-//! `cb_station`, `cb_worker`, `cb_jobs` and `cb_run`. The types of which an office and a worker are
+//! `cb_station`, `cb_worker` and `cb_run`. The types of which an office and a worker are
 //! made are exported too.
 //!
 //! An example, which is compiled and run as the test `example` of `cb_tests`. A client reads a
@@ -44,9 +44,11 @@
 pub use cb_admission::TryEnd;
 pub use cb_commit::Store;
 pub use cb_hands::{Entry, Grant, Hand, Read, Shown};
-pub use cb_jobs::{Gate, JobDone, Tally, TallyFault, Turn, Watch, counter_sum};
 pub use cb_page::{ClientNo, CommitNo, Limits, PageNo};
-pub use cb_run::{DoneJob, FlushStop, Results, flush_again, flush_loop, run_on, work};
+pub use cb_run::{
+    DoneJob, FlushStop, Gate, JobDone, Results, Tally, TallyFault, Turn, Watch, counter_sum,
+    flush_again, flush_loop, run_on, work,
+};
 pub use cb_shelf::{Shelf, ShelfFault};
 pub use cb_station::{EndedTry, LockedStation, Office, OfficeFault, Station, Ticket};
 pub use cb_twoq::{Chooser, TwoQ};

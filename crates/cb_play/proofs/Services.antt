@@ -12,8 +12,8 @@ use Rattle.cb_serve.specs.declared.fault.ServeFault.{ServeFault}
 use Rattle.cb_serve.specs.declared.fault.ServeFault.TheVariants as fault
 use Rattle.cb_shelf.specs.LifeRows.{LifeState}
 use Rattle.cb_shelf.specs.Newer.{HoldsNewer}
-use Rattle.cb_sql.specs.Inside.{IsSame}
-use Rattle.cb_sql.specs.declared.fault.ShelfFault.{ShelfFault}
+use Rattle.cb_shelf.specs.Inside.{IsSame}
+use Rattle.cb_shelf.specs.declared.fault.ShelfFault.{ShelfFault}
 use Rattle.cb_play.specs.Services.{ServesDatabase, ServesLife, ServesTables}
 use Rattle.cb_play.specs.StoreFiles.{BeginsLife, OpensShelf}
 use Rattle.cb_play.specs.declared.store_file.Reach.{Reach}

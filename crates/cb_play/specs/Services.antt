@@ -20,7 +20,7 @@ use Rattle.cb_serve.specs.declared.fault.ServeFault.{ServeFault}
 use Rattle.cb_serve.specs.declared.fault.ServeFault.TheVariants as fault
 use Rattle.cb_serve.specs.declared.serving.Served.{Served}
 use Rattle.cb_shelf.specs.LifeRows.{LifeState}
-use Rattle.cb_sql.specs.Inside.{IsSame}
+use Rattle.cb_shelf.specs.Inside.{IsSame}
 use Rattle.cb_play.specs.StoreFiles.{BeginsLife, OpensShelf, ReadsStore}
 use Rattle.cb_play.specs.declared.store_file.Reach.{Reach}
 use Rattle.cb_play.specs.declared.store_file.Reach.TheVariants as reach

@@ -10,8 +10,8 @@ use Rattle.cb_shelf.specs.LifeRows.{LifeState}
 use Rattle.cb_shelf.specs.Living.{Begun, Follows, life_statements}
 use Rattle.cb_shelf.specs.Newer.{HoldsNewer}
 use Rattle.cb_shelf.specs.Opening.{LaysOut, Opened}
-use Rattle.cb_sql.specs.Inside.{IsSame, IsSettled}
-use Rattle.cb_sql.specs.Statements.{MakesAll}
+use Rattle.cb_shelf.specs.Inside.{IsSame, IsSettled}
+use Rattle.cb_shelf.specs.Statements.{MakesAll}
 
 module _ {S : Type 0} (g : Ghosts S) where
   -- This life began over the tables: it follows those that they told of, and its row is on disk.

@@ -1,7 +1,7 @@
 -- What is printed of a run over a store's file. This project's rules.
 use Rattle.std.specs.Prelude.{◌≡◌, ◌≤◌, ◌*◌, ℕ, Bool, Option, Some, None, Result, Ok, Err, List}
-use Rattle.cb_jobs.specs.Outcomes.{PrintsCounted, PrintsRun}
-use Rattle.cb_jobs.specs.declared.printing.Counted.{Counted}
+use Rattle.cb_run.specs.Outcomes.{PrintsCounted, PrintsRun}
+use Rattle.cb_run.specs.declared.printing.Counted.{Counted}
 use Rattle.cb_console.specs.declared.config.Config.{Config}
 use Rattle.cb_console.specs.RunSettings.{IsRunSettings, PrintsRefusal}
 use Rattle.cb_console.specs.declared.running.RunFault.{RunFault}

@@ -3,7 +3,7 @@ ghost use Rattle.std.specs.Prelude.{◌≡◌, Some, None, codes, IfErr, IfOk, O
 ghost use Rattle.cb_commit.specs.Stores.{IsOf};
 ghost use Rattle.cb_play.specs.StoreFiles.{BeginsLife, OpensShelf};
 ghost use Rattle.cb_shelf.specs.Newer.{HoldsNewer};
-ghost use Rattle.cb_sql.specs.Inside.{IsSame};
+ghost use Rattle.cb_shelf.specs.Inside.{IsSame};
 ghost use Rattle.sqlite.specs.Held.{state};
 ghost use Rattle.sqlite.specs.State.{HasCleanDisk};
 

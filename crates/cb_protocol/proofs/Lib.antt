@@ -247,8 +247,8 @@
 -- Wrong tables of lives
 --
 -- These tables of lives stand in `scripts/wrong_bodies/cb_protocol.edits`. Each line says what is
--- broken, then which worked schedules of `cb_lives` (`proofs/WorkedLives`) show it. `RestartLeaves`
--- and `SendsInLife` are of `cb_lives`; `lives_headline` needs the rest.
+-- broken, then which worked schedules of `cb_laws` (`proofs/WorkedLives`) show it. `RestartLeaves`
+-- and `SendsInLife` are of `cb_laws`; `lives_headline` needs the rest.
 --
 -- - `former_floor_taken` (the server opens with the former life's floor), `former_hello_welcomed`
 --   (it knows no incarnation, as at first): no current incarnation is below the new floor

@@ -1,5 +1,5 @@
 //! The server restarts: what is promised of the world over all its lives. A life of the server is
-//! from one start of it to the next. What holds of each event besides is in `cb_lives`.
+//! from one start of it to the next. What holds of each event besides is in `cb_laws`.
 
 ghost use Rattle.cb_protocol.specs.Basics.{Limits};
 ghost use Rattle.cb_protocol.specs.Lives.{LivesKeepThePromise, OneLifeIsPromised, RunsAreOfOneLife};

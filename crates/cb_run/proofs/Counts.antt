@@ -1,9 +1,9 @@
 -- What the counts of a run are.
 use Rattle.std.proofs.Common.{◌≡◌, ◌≤◌, ℕ, Bool, true, Option, Some, None, Result, Ok, Err, IfOk, arith, refl, subst}
-use Rattle.cb_jobs.specs.declared.ending.ClientEnding.{ClientEnding}
-use Rattle.cb_jobs.specs.declared.ending.Ending.{Ending}
+use Rattle.cb_run.specs.declared.ending.ClientEnding.{ClientEnding}
+use Rattle.cb_run.specs.declared.ending.Ending.{Ending}
 use Rattle.cb_run.specs.Runs.{adds_up, ending_of_run}
-use Rattle.cb_sql.specs.declared.fault.ShelfFault.{ShelfFault}
+use Rattle.cb_shelf.specs.declared.fault.ShelfFault.{ShelfFault}
 
 -- jobs that add up are at most all
 pub few_done : (committed all : ℕ) (cut_off : Bool) → adds_up committed all cut_off ≡ true → committed ≤ all

@@ -11,8 +11,8 @@ use Rattle.cb_commit.specs.Batches.{BatchState}
 use Rattle.cb_page.specs.Bounds.{Bounds}
 use Rattle.cb_run.specs.Flushing.{LeavesAll, LeavesFirst, LeavesSome, MadeFirst, MadeSome, MakesBatches, WritesAll, WritesFirst, WritesSome}
 use Rattle.cb_shelf.specs.Flushing.{WritesOne, WritesOrStays}
-use Rattle.cb_sql.specs.Statements.{MakesAll, batch_statements}
-use Rattle.cb_sql.specs.Writing.{Fits, Wrote}
+use Rattle.cb_shelf.specs.Statements.{MakesAll, batch_statements}
+use Rattle.cb_shelf.specs.Writing.{Fits, Wrote}
 
 all_more : (limits : Bounds) (batches : List BatchState) (batch : BatchState) → AllByRecursion (Fits limits) batches → Fits limits batch → AllByRecursion (Fits limits) (batches ++ batch ∷ [])
 all_more limits [] batch a f = (f, tt)

@@ -1,7 +1,7 @@
 -- How a client's part of a run ends.
 use Rattle.std.proofs.Common.{◌≡◌, ℕ, Option, Some, None, Result, Ok, Err, IfOk, OnOk, refl, subst, sym}
 use Rattle.cb_hands.specs.Hands.{HandState}
-use Rattle.cb_jobs.specs.declared.ending.Ending.{Ending}
+use Rattle.cb_run.specs.declared.ending.Ending.{Ending}
 use Rattle.cb_run.specs.Ends.{HasLeft}
 use Rattle.cb_run.specs.Parts.{IsEndOf, end_of_part, told_of}
 use Rattle.cb_run.specs.Runs.{ending_of_worker}

@@ -8,9 +8,9 @@ use Rattle.sqlite.specs.Store.{Ghosts}
 use Rattle.sqlite.specs.Tree.{Trees}
 use Rattle.cb_commit.specs.Batches.{BatchState}
 use Rattle.cb_page.specs.Bounds.{Bounds}
-use Rattle.cb_sql.specs.Inside.{IsSettled}
-use Rattle.cb_sql.specs.Statements.{MakesAll, batch_statements}
-use Rattle.cb_sql.specs.Writing.{Fits}
+use Rattle.cb_shelf.specs.Inside.{IsSettled}
+use Rattle.cb_shelf.specs.Statements.{MakesAll, batch_statements}
+use Rattle.cb_shelf.specs.Writing.{Fits}
 
 -- the batches made one database of another, one after another
 abbrev pub MakesBatches : {S : Type 0} → Ghosts S → List BatchState → (before after : Database)

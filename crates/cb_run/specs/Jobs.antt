@@ -3,8 +3,8 @@ use Rattle.std.specs.Prelude.{◌≡◌, ◌+◌, ◌-◌, ◌%◌, ◌^◌, ◌
 use Rattle.std.specs.Prelude.{length, drop, Vec}
 use Rattle.std.specs.Global.{Global}
 use Rattle.cb_client.specs.CallAnswers.{Begins, Writes}
-use Rattle.cb_jobs.specs.Counters.{counter_of}
-use Rattle.cb_jobs.specs.declared.tally.JobDone.{JobDone}
+use Rattle.cb_run.specs.Counters.{counter_of}
+use Rattle.cb_run.specs.declared.tally.JobDone.{JobDone}
 use Rattle.cb_protocol.specs.Basics.{Bytes}
 use Rattle.cb_outbox.specs.Messages.{page_writes}
 use Rattle.cb_protocol.specs.Client as protocol

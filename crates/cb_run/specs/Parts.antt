@@ -1,6 +1,6 @@
 -- How clients' parts of a run end. This project's rules.
 use Rattle.std.specs.Prelude.{◌≡◌, ℕ, ⊤, Result, Ok, Err, Option, Some, None}
-use Rattle.cb_jobs.specs.declared.ending.Ending.{Ending}
+use Rattle.cb_run.specs.declared.ending.Ending.{Ending}
 use Rattle.cb_run.specs.Runs.{ending_of_worker, of_client}
 use Rattle.cb_run.specs.declared.parts.PartEnd.{PartEnd}
 use Rattle.cb_run.specs.declared.parts.PartEnd.TheVariants as part

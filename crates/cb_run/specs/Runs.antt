@@ -3,15 +3,15 @@ use Rattle.std.specs.Prelude.{◌≡◌, ◌≤◌, ◌==◌, ◌&&◌, ◌||◌
 use Rattle.std.specs.Prelude.{Option, Some, None, Result, Ok, Err, IsTrue}
 use Rattle.cb_client.specs.declared.client_fault.ClientFault.TheVariants as client
 use Rattle.cb_commit.specs.Stores.{StoreState}
-use Rattle.cb_jobs.specs.Counters.{sum_of_counters}
+use Rattle.cb_run.specs.Counters.{sum_of_counters}
 use Rattle.cb_station.specs.declared.office_fault.OfficeFault.TheVariants as office
-use Rattle.cb_jobs.specs.declared.ending.ClientEnding.{ClientEnding}
-use Rattle.cb_jobs.specs.declared.ending.Ending.{Ending}
-use Rattle.cb_jobs.specs.declared.ending.Ending.TheVariants as ending
-use Rattle.cb_jobs.specs.declared.printing.Counted.{Counted}
+use Rattle.cb_run.specs.declared.ending.ClientEnding.{ClientEnding}
+use Rattle.cb_run.specs.declared.ending.Ending.{Ending}
+use Rattle.cb_run.specs.declared.ending.Ending.TheVariants as ending
+use Rattle.cb_run.specs.declared.printing.Counted.{Counted}
 use Rattle.cb_shelf.specs.Reading.{Holds}
-use Rattle.cb_sql.specs.declared.fault.ShelfFault.{ShelfFault}
-use Rattle.cb_sql.specs.declared.fault.ShelfFault.TheVariants as shelf
+use Rattle.cb_shelf.specs.declared.fault.ShelfFault.{ShelfFault}
+use Rattle.cb_shelf.specs.declared.fault.ShelfFault.TheVariants as shelf
 use Rattle.cb_run.specs.Ends.{OverState}
 use Rattle.cb_worker.specs.declared.worker_fault.WorkerFault.{WorkerFault}
 use Rattle.cb_worker.specs.declared.worker_fault.WorkerFault.TheVariants as worker

@@ -7,8 +7,8 @@ use Rattle.cb_station.specs.Flags.{is_cut_off}
 use Rattle.cb_station.specs.Stations.{StationState, server_of}
 use Rattle.cb_page.specs.Bounds.{Bounds}
 use Rattle.cb_protocol.specs.Flush.{next_batch}
-use Rattle.cb_sql.specs.declared.fault.ShelfFault.TheVariants.{Shape, Memory}
-use Rattle.cb_sql.specs.Writing.{Fits}
+use Rattle.cb_shelf.specs.declared.fault.ShelfFault.TheVariants.{Shape, Memory}
+use Rattle.cb_shelf.specs.Writing.{Fits}
 use Rattle.cb_run.specs.declared.flusher.CountedStop.{CountedStop}
 use Rattle.cb_run.specs.declared.flusher.FlushStop.{FlushStop}
 use Rattle.cb_run.specs.declared.over.Next.{Next}

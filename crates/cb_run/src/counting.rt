@@ -2,12 +2,12 @@
 ghost use Rattle.std.specs.Prelude.{◌≡◌, ◌≤◌, ◌*◌, true, false, length, Ok, Err, IfOk, IsTrue};
 ghost use Rattle.sqlite.specs.Held.{state};
 ghost use Rattle.sqlite.specs.State.{HasCleanDisk};
-ghost use Rattle.cb_jobs.specs.Tallies.{is_done, jobs_done, jobs_of, with_done};
+ghost use Rattle.cb_run.specs.Tallies.{is_done, jobs_done, jobs_of, with_done};
 ghost use Rattle.cb_run.specs.Runs.{IsSumIn, adds_up};
 
 use crate::faults::of_shelf;
 use crate::results::Results;
-use cb_jobs::{Ending, JobDone, Tally, Watch, counter_sum};
+use crate::{Ending, JobDone, Tally, Watch, counter_sum};
 use cb_page::{CommitNo, Limits};
 use cb_shelf::Shelf;
 use sqlite::Alter;

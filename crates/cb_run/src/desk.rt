@@ -12,13 +12,13 @@ ghost use Rattle.cb_run.specs.Pacing.{awaited_after};
 ghost use Rattle.cb_run.specs.Reporting.{ReportsUpTo};
 ghost use Rattle.cb_run.specs.Stopping.{EndsAt};
 ghost use Rattle.cb_shelf.specs.Flushing.{WritesOne, WritesOrStays};
-ghost use Rattle.cb_sql.specs.Writing.{Fits, Wrote};
+ghost use Rattle.cb_shelf.specs.Writing.{Fits, Wrote};
 
+use crate::Watch;
 use crate::over::{Next, next_at};
 use crate::pace::{Pace, time_since};
 use crate::reporting::{Reported, report_at};
 use cb_commit::Batch;
-use cb_jobs::Watch;
 use cb_shelf::{Reports, Shelf, ShelfFault, Written, write_and_report};
 use cb_station::{Office, Station};
 use sqlite::Alter;

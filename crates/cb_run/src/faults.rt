@@ -2,8 +2,8 @@
 ghost use Rattle.std.specs.Prelude.{◌≡◌};
 ghost use Rattle.cb_run.specs.Runs.{ending_of_run, ending_of_shelf, ending_of_worker};
 
+use crate::{ClientEnding, Ending};
 use cb_client::ClientFault;
-use cb_jobs::{ClientEnding, Ending};
 use cb_shelf::ShelfFault;
 use cb_station::OfficeFault;
 use cb_worker::WorkerFault;

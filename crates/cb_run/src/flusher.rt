@@ -5,13 +5,13 @@ ghost use Rattle.sqlite.specs.State.{Survives};
 ghost use Rattle.cb_run.specs.Flushing.{LeavesFirst, LeavesSome, MadeFirst, MadeSome, WritesFirst};
 ghost use Rattle.cb_run.specs.Flushing.{WritesSome};
 ghost use Rattle.cb_run.specs.Stopping.{Stops};
-ghost use Rattle.cb_sql.specs.Writing.{Fits};
+ghost use Rattle.cb_shelf.specs.Writing.{Fits};
 
+use crate::Watch;
 use crate::desk::{flush_batch, next_batch};
 use crate::over::{Next, Over};
 use crate::pace::Pace;
 use cb_commit::Batch;
-use cb_jobs::Watch;
 use cb_shelf::{Shelf, ShelfFault};
 use cb_station::Office;
 use sqlite::Alter;
@@ -43,7 +43,7 @@ impl CountedStop {
     }
 }
 
-/// As [`crate::flush_loop_watched`]; a stop tells besides whether a batch was written before.
+/// As [`flush_loop_watched`]; a stop tells besides whether a batch was written before.
 pub(crate) fn flush_counted<'a, R: Wait + Clock, S: Alter, W: Watch>(
     rt: &R,
     alloc: Global,
@@ -83,7 +83,7 @@ pub(crate) fn flush_counted<'a, R: Wait + Clock, S: Alter, W: Watch>(
     unreachable!()
 }
 
-/// As [`crate::flush_again_watched`]; a stop tells besides whether the loop wrote a batch before.
+/// As [`flush_again_watched`]; a stop tells besides whether the loop wrote a batch before.
 pub(crate) fn flush_counted_again<'a, R: Wait + Clock, S: Alter, W: Watch>(
     rt: &R,
     alloc: Global,

@@ -5,9 +5,9 @@ ghost use Rattle.cb_run.specs.Jobs.{CommitsJob, Copies, CountsBoth, CountsUp, En
 ghost use Rattle.cb_run.specs.Jobs.{IsOneMore};
 ghost use Rattle.cb_worker.specs.Workers.{last_txn};
 
+use crate::count_up;
 use crate::ended_try::{enter_next, give_back};
 use cb_admission::TryEnd;
-use cb_jobs::count_up;
 use cb_page::{ClientNo, CommitNo, PageNo};
 use cb_station::{EndedTry, Office};
 use cb_twoq::Chooser;

@@ -10,33 +10,53 @@
 //!   run is done, unless somebody else cut it off. [`of_run`] says which fault ends a run, and
 //!   [`of_shelf`] how one of the store does.
 //! - [`flush_loop_watched`], [`flush_again_watched`] and [`run_on_watched`] are the same, and tell
-//!   a [`cb_jobs::Watch`] of each batch.
+//!   a [`Watch`] of each batch.
+//!
+//! A job adds one to the counters that pages 0 and 1 begin with ([`count_up`], [`counter_sum`]). A
+//! [`Gate`] says who may begin a job. A [`JobDone`] tells of one that was committed, and a
+//! [`Tally`] counts each of those once. A [`Watch`] is told of each batch that is on disk:
+//! [`Progress`] shows it on a writer, at most twice a second, and [`Unwatched`] doesn't. An
+//! [`Ending`] is why a run ended before all was done. [`print_run`] prints the outcome of a run.
 #![tactic(auto)]
 
 mod client;
+mod counters;
 mod counting;
 mod desk;
 mod ended_try;
+mod ending;
 mod faults;
 mod flusher;
+mod gate;
 mod job;
 mod loops;
 mod over;
 mod pace;
 mod parts;
+mod printing;
+mod progress;
 mod reporting;
 mod results;
 mod run;
 mod running;
+mod tally;
 mod tries;
+mod watch;
 mod working;
 
+pub use counters::{count_up, counter, counter_sum};
+pub use ending::{ClientEnding, Ending, FirstEnding, Noted};
 pub use faults::{of_run, of_shelf};
 pub use flusher::FlushStop;
+pub use gate::{Gate, Turn};
 pub use loops::{flush_again, flush_again_watched, flush_loop, flush_loop_watched};
 pub use over::Over;
 pub use parts::{PastRun, RunOver};
+pub use printing::{Counted, print_run};
+pub use progress::Progress;
 pub use results::{DoneJob, Results};
 pub use running::{RunEnd, run_and_count, run_on, run_on_watched};
+pub use tally::{JobDone, Tally, TallyFault};
 pub use tries::flush_in_tries;
+pub use watch::{Unwatched, Watch};
 pub use working::work;

@@ -5,11 +5,11 @@ ghost use Rattle.sqlite.specs.State.{Survives};
 ghost use Rattle.cb_run.specs.Flushing.{LeavesFirst, LeavesSome, MadeFirst, MadeSome, WritesFirst};
 ghost use Rattle.cb_run.specs.Flushing.{WritesSome};
 ghost use Rattle.cb_run.specs.Stopping.{Stops};
-ghost use Rattle.cb_sql.specs.Writing.{Fits};
+ghost use Rattle.cb_shelf.specs.Writing.{Fits};
 
 use crate::flusher::{FlushStop, flush_counted, flush_counted_again};
 use crate::over::Over;
-use cb_jobs::{Unwatched, Watch};
+use crate::{Unwatched, Watch};
 use cb_shelf::Shelf;
 use cb_station::Office;
 use sqlite::Alter;

@@ -1,12 +1,12 @@
 //! How the clients' parts of a run ended.
 ghost use Rattle.std.specs.Prelude.{◌≡◌, ◌≤◌, ◌+◌, IfErr, IfOk, OnOk, Ok, Err, None};
-ghost use Rattle.cb_jobs.specs.Outcomes.{lower};
+ghost use Rattle.cb_run.specs.Outcomes.{lower};
 ghost use Rattle.cb_run.specs.Parts.{quiet_parts};
 ghost use Rattle.cb_run.specs.Runs.{ending_of_run, of_client};
 
 use crate::faults::of_run;
 use crate::over::Over;
-use cb_jobs::{Ending, FirstEnding, Noted};
+use crate::{Ending, FirstEnding, Noted};
 use cb_shelf::ShelfFault;
 use cb_worker::Left;
 use std::marker::Model;

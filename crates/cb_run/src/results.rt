@@ -2,8 +2,8 @@
 ghost use Rattle.std.specs.Prelude.{◌≡◌, IfOk};
 ghost use Rattle.cb_run.specs.Jobs.{TellsJob};
 
+use crate::JobDone;
 use crate::job::run_job;
-use cb_jobs::JobDone;
 use cb_page::ClientNo;
 use cb_station::{EndedTry, Office};
 use cb_twoq::Chooser;

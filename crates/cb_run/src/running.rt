@@ -1,6 +1,6 @@
 //! Workers and the flusher, to their end.
 ghost use Rattle.std.specs.Prelude.{◌≡◌, ◌*◌, IfOk, IfSome, Some};
-ghost use Rattle.cb_jobs.specs.Outcomes.{PrintsCounted};
+ghost use Rattle.cb_run.specs.Outcomes.{PrintsCounted};
 ghost use Rattle.cb_run.specs.Runs.{IsCounted, cut_off_of};
 
 use crate::client::{give_up, job_list, run_part};
@@ -10,7 +10,7 @@ use crate::parts::{Parts, RunOver};
 use crate::results::Results;
 use crate::run::Run;
 use crate::tries::flush_in_tries;
-use cb_jobs::{Counted, Ending, Gate, Unwatched, Watch, print_run};
+use crate::{Counted, Ending, Gate, Unwatched, Watch, print_run};
 use cb_page::Limits;
 use cb_shelf::{Shelf, ShelfFault};
 use cb_station::Office;

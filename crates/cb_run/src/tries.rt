@@ -5,9 +5,9 @@ ghost use Rattle.sqlite.specs.State.{Survives};
 ghost use Rattle.cb_run.specs.Flushing.{MadeAtLast, Tries, WritesAtLast};
 ghost use Rattle.cb_run.specs.Stopping.{number_of, tries_left};
 
+use crate::Watch;
 use crate::flusher::{CountedStop, FlushStop, flush_counted, flush_counted_again};
 use crate::over::Over;
-use cb_jobs::Watch;
 use cb_shelf::{Shelf, ShelfFault};
 use cb_station::Office;
 use sqlite::Alter;

@@ -7,7 +7,7 @@ ghost use Rattle.cb_worker.specs.Refusals.{RefusesLeave};
 use crate::ended_try::give_back;
 use crate::results::{Results, do_job};
 use crate::run::Run;
-use cb_jobs::{Gate, Turn};
+use crate::{Gate, Turn};
 use cb_page::ClientNo;
 use cb_station::{EndedTry, Office, OfficeFault};
 use cb_twoq::Chooser;

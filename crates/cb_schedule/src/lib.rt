@@ -9,7 +9,7 @@
 //! such a world whose server restarts too: it plays [`LivesEvent`]s, which [`read_lives`] reads,
 //! and gives a [`LivesTranscript`].
 //!
-//! The promise of each call stands in the call's own crate: `cb_event`, `cb_transcript` and
+//! The promise of each call stands in the call's own crate: `cb_transcript` and
 //! `cb_world`. The limits, the store and the chooser of which a world is made are exported too. So
 //! are the laws of worlds: [`copies_are_backed_by_rows`], [`written_pages_are_alone`],
 //! [`readable_copies_agree`], [`writer_is_alone`] and [`committed_transactions_are_serial`].
@@ -28,7 +28,6 @@
 #![tactic(auto)]
 
 pub use cb_commit::Store;
-pub use cb_event::{Call, Event, LivesEvent, ScheduleFault, read_lives, read_schedule};
 pub use cb_laws::written_pages_are_alone;
 pub use cb_page::{Incarnation, Limits};
 pub use cb_protocol::{
@@ -36,8 +35,9 @@ pub use cb_protocol::{
     writer_is_alone,
 };
 pub use cb_transcript::{
-    Answer, AnswerWord, LivesEntry, LivesTranscript, Refusal, RestartAnswer, RestartRefusal,
-    SentPacket, SentPackets, TransactionName, Transcript, TranscriptEntry, Verdict, check_serial,
+    Answer, AnswerWord, Call, Event, LivesEntry, LivesEvent, LivesTranscript, Refusal,
+    RestartAnswer, RestartRefusal, ScheduleFault, SentPacket, SentPackets, TransactionName,
+    Transcript, TranscriptEntry, Verdict, check_serial, read_lives, read_schedule,
 };
 pub use cb_twoq::TwoQ;
 pub use cb_world::{Lives, LivesFault, PlayFault, World, draw};

@@ -14,10 +14,10 @@ use Rattle.cb_protocol.specs.Server.{Server}
 use Rattle.cb_protocol.specs.WaitsFor.{on_cycle}
 use Rattle.cb_server.specs.ServerValue.{IsServer, ServerValue, limits_at, opening_at, server_of}
 use Rattle.cb_server_state.specs.Commits.{batch_of, batch_page}
-use Rattle.cb_sql.specs.Inside.{IsSame}
-use Rattle.cb_sql.specs.Writing.{Fits, IsOfSize}
-use Rattle.cb_sql.specs.declared.fault.ShelfFault.{ShelfFault}
-use Rattle.cb_sql.specs.declared.fault.ShelfFault.TheVariants as shelf
+use Rattle.cb_shelf.specs.Inside.{IsSame}
+use Rattle.cb_shelf.specs.Writing.{Fits, IsOfSize}
+use Rattle.cb_shelf.specs.declared.fault.ShelfFault.{ShelfFault}
+use Rattle.cb_shelf.specs.declared.fault.ShelfFault.TheVariants as shelf
 use Rattle.cb_serve.proofs.Inputs.{all_append}
 use Rattle.cb_serve.specs.Endings.{becomes_of_shelf}
 use Rattle.cb_serve.specs.Parts.{RefusesBatch}

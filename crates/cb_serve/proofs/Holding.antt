@@ -12,7 +12,7 @@ use Rattle.cb_serve.specs.declared.fault.ServeFault.{ServeFault}
 use Rattle.cb_serve.specs.declared.fault.ServeFault.TheVariants as fault
 use Rattle.cb_shelf.specs.LifeRows.{LifeState}
 use Rattle.cb_shelf.specs.Newer.{HoldsNewer}
-use Rattle.cb_sql.specs.Inside.{IsSame}
+use Rattle.cb_shelf.specs.Inside.{IsSame}
 
 module _ {S : Type 0} (g : Ghosts S) where
   -- tables whose store was read hold it still

@@ -5,10 +5,10 @@ use Rattle.std.proofs.lemmas.Bool.Decides.{nat_tests}
 use Rattle.std.proofs.lemmas.Grind.{flat_map-append}
 use Rattle.std.proofs.lemmas.List.{append-nil}
 use Rattle.std.specs.List.{AllByRecursion, flat_map}
-use Rattle.cb_frame_types.specs.Grammar.{IsFrameInSome}
-use Rattle.cb_frame_types.specs.Kinds.{kind_of_body}
-use Rattle.cb_frame_types.specs.Spelling.{spelling_in}
-use Rattle.cb_frame_types.specs.declared.frame.Frame.{Frame}
+use Rattle.cb_frame.specs.Grammar.{IsFrameInSome}
+use Rattle.cb_frame.specs.Kinds.{kind_of_body}
+use Rattle.cb_frame.specs.Spelling.{spelling_in}
+use Rattle.cb_frame.specs.declared.frame.Frame.{Frame}
 use Rattle.cb_page.specs.Bounds.{Bounds}
 use Rattle.cb_protocol.specs.AnyMessages.{Input, SendsAgain}
 use Rattle.cb_server.specs.ServerValue.{ServerValue}

@@ -18,7 +18,7 @@ use Rattle.cb_server.specs.ServerValue.{IsResumed, ServerValue, server_of}
 use Rattle.cb_server_state.specs.Commits.{batch_of}
 use Rattle.cb_commit.specs.Batches.{BatchState}
 use Rattle.cb_shelf.specs.LifeRows.{LifeState}
-use Rattle.cb_sql.specs.Writing.{Fits}
+use Rattle.cb_shelf.specs.Writing.{Fits}
 use Rattle.cb_serve.proofs.Faults.{IsOfOutput}
 use Rattle.cb_serve.proofs.Inputs.{spells_nothing}
 use Rattle.cb_serve.proofs.Writing.{survives_still}

@@ -9,9 +9,9 @@ use Rattle.sqlite.specs.State.{HasCleanDisk, Survives}
 use Rattle.sqlite.specs.Store.{Ghosts}
 use Rattle.sqlite.specs.Tree.{Trees}
 use Rattle.cb_commit.specs.Batches.{BatchState}
-use Rattle.cb_frame_types.specs.Grammar.{Fits as FrameFits}
-use Rattle.cb_frame_types.specs.Spelling.{spelling}
-use Rattle.cb_frame_types.specs.declared.frame.Frame.{Frame}
+use Rattle.cb_frame.specs.Grammar.{Fits as FrameFits}
+use Rattle.cb_frame.specs.Spelling.{spelling}
+use Rattle.cb_frame.specs.declared.frame.Frame.{Frame}
 use Rattle.cb_outbox.specs.Messages.{messages_of}
 use Rattle.cb_page.specs.Bounds.{Bounds}
 use Rattle.cb_protocol.proofs.NoCycles.{sends_dones}
@@ -24,9 +24,9 @@ use Rattle.cb_server.specs.ServerValue.{ServerValue, forgot, server_of}
 use Rattle.cb_server.specs.Taking.{Does}
 use Rattle.cb_server_state.specs.Commits.{batch_of}
 use Rattle.cb_shelf.specs.Flushing.{WritesOne}
-use Rattle.cb_sql.specs.Inside.{IsSame, IsSettled}
-use Rattle.cb_sql.specs.Statements.{MakesAll, batch_statements}
-use Rattle.cb_sql.specs.Writing.{Fits, Wrote}
+use Rattle.cb_shelf.specs.Inside.{IsSame, IsSettled}
+use Rattle.cb_shelf.specs.Statements.{MakesAll, batch_statements}
+use Rattle.cb_shelf.specs.Writing.{Fits, Wrote}
 use Rattle.cb_serve.proofs.Faults.{IsOfOutput}
 use Rattle.cb_serve.proofs.Inputs.{answers_one}
 use Rattle.cb_serve.specs.Parts.{Commits, PutsDones, RefusesBatch, StopsCommit}

@@ -1,9 +1,9 @@
 -- What the protocol's server says to pieces of a stream, and the bytes of that.
 use Rattle.std.specs.Prelude.{◌≡◌, ◌≤◌, ℕ, List, [], ◌∷◌, ◌++◌, length, take, true, if◌then◌else◌}
 use Rattle.std.specs.List.{AllByRecursion, flat_map}
-use Rattle.cb_frame_types.specs.Grammar.{Fits, IsFrameInSome}
-use Rattle.cb_frame_types.specs.Spelling.{spelling}
-use Rattle.cb_frame_types.specs.declared.frame.Frame.{Frame}
+use Rattle.cb_frame.specs.Grammar.{Fits, IsFrameInSome}
+use Rattle.cb_frame.specs.Spelling.{spelling}
+use Rattle.cb_frame.specs.declared.frame.Frame.{Frame}
 use Rattle.cb_outbox.specs.Messages.{body_of, messages_of}
 use Rattle.cb_page.specs.Bounds.{Bounds}
 use Rattle.cb_protocol.specs.AnyMessages.{Input, SendsAgain, input_steps}

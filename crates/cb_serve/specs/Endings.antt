@@ -6,8 +6,8 @@ use Rattle.std.specs.IoError.{error_kind}
 use Rattle.std.specs.Io.KnownBytes.{Appends}
 use Rattle.cb_server.specs.declared.server_fault.ServerFault.{ServerFault}
 use Rattle.cb_server.specs.declared.server_fault.ServerFault.TheVariants as server
-use Rattle.cb_sql.specs.declared.fault.ShelfFault.{ShelfFault}
-use Rattle.cb_sql.specs.declared.fault.ShelfFault.TheVariants as shelf
+use Rattle.cb_shelf.specs.declared.fault.ShelfFault.{ShelfFault}
+use Rattle.cb_shelf.specs.declared.fault.ShelfFault.TheVariants as shelf
 use Rattle.cb_serve.specs.Calls.{lacks_memory}
 use Rattle.cb_serve.specs.declared.calls.Refusal.{Refusal}
 use Rattle.cb_serve.specs.declared.fault.RoundFault.{RoundFault}

@@ -1,6 +1,6 @@
 -- What the bytes of a stream begin with.
 use Rattle.std.specs.Prelude.{◌≡◌, ℕ, ◌<◌, ◌≤◌, List, length, take}
-use Rattle.cb_frame_types.specs.Grammar.{IsFrameInSome}
+use Rattle.cb_frame.specs.Grammar.{IsFrameInSome}
 use Rattle.cb_page.specs.Bounds.{Bounds}
 use Rattle.cb_serve.specs.Streams.{IsNoFrame, IsPart, IsUnread, again_header, header_of}
 use Rattle.cb_serve.specs.declared.front.Front.{Front}

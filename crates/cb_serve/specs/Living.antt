@@ -10,8 +10,8 @@ use Rattle.cb_protocol.specs.Server.{Server}
 use Rattle.cb_server.specs.Knowing.{KnowsBelow}
 use Rattle.cb_shelf.specs.LifeRows.{LifeState, life_row}
 use Rattle.cb_shelf.specs.Living.{MadeBy, raised}
-use Rattle.cb_sql.specs.Inside.{IsSame, IsSettled}
-use Rattle.cb_sql.specs.Statements.{MakesAll}
+use Rattle.cb_shelf.specs.Inside.{IsSame, IsSettled}
+use Rattle.cb_shelf.specs.Statements.{MakesAll}
 use Rattle.cb_serve.specs.Rounds.{IsRound, Round, Standing}
 use Rattle.cb_serve.specs.declared.fault.RoundFault.{RoundFault}
 use Rattle.cb_serve.specs.declared.fault.RoundFault.TheVariants as round

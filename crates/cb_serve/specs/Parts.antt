@@ -8,8 +8,8 @@ use Rattle.sqlite.specs.State.{HasCleanDisk, Survives}
 use Rattle.sqlite.specs.Store.{Ghosts}
 use Rattle.cb_commit.specs.Batches.{BatchState}
 use Rattle.cb_page.specs.Bounds.{Bounds}
-use Rattle.cb_frame_types.specs.Grammar.{Fits as FrameFits}
-use Rattle.cb_frame_types.specs.declared.frame.Frame.{Frame}
+use Rattle.cb_frame.specs.Grammar.{Fits as FrameFits}
+use Rattle.cb_frame.specs.declared.frame.Frame.{Frame}
 use Rattle.cb_outbox.specs.Messages.{messages_of}
 use Rattle.cb_protocol.specs.AnyMessages.{ReachesDisk}
 use Rattle.cb_protocol.specs.Flush.{next_batch}
@@ -18,8 +18,8 @@ use Rattle.cb_server.specs.ServerValue.{ServerValue, forgot, server_of}
 use Rattle.cb_server.specs.Taking.{Does}
 use Rattle.cb_server_state.specs.Commits.{batch_of}
 use Rattle.cb_shelf.specs.LifeRows.{LifeState}
-use Rattle.cb_sql.specs.Inside.{IsSame}
-use Rattle.cb_sql.specs.Writing.{Fits}
+use Rattle.cb_shelf.specs.Inside.{IsSame}
+use Rattle.cb_shelf.specs.Writing.{Fits}
 use Rattle.cb_serve.specs.Answering.{LacksNumber, Spells, TakesPieces, after_inputs, inputs_in}
 use Rattle.cb_serve.specs.Answering.{said_to}
 use Rattle.cb_serve.specs.Calls.{IsFinal}

@@ -12,8 +12,8 @@ use Rattle.cb_protocol.specs.Flush.{next_batch}
 use Rattle.cb_protocol.specs.Server.{Server}
 use Rattle.cb_server_state.specs.Commits.{batch_of}
 use Rattle.cb_shelf.specs.Flushing.{WritesOne, WritesOrStays}
-use Rattle.cb_sql.specs.Inside.{IsSame}
-use Rattle.cb_sql.specs.Writing.{Wrote}
+use Rattle.cb_shelf.specs.Inside.{IsSame}
+use Rattle.cb_shelf.specs.Writing.{Wrote}
 use Rattle.cb_serve.specs.Answering.{Spells, after_inputs, inputs_in, said_to}
 use Rattle.cb_serve.specs.Streams.{IsPiece, IsRest, Piece, bytes_of, count_passed}
 

@@ -16,7 +16,7 @@ use Rattle.cb_server_state.specs.Commits.{batch_of}
 use Rattle.cb_server_state.specs.States.{limits_of, opening_of}
 use Rattle.cb_shelf.specs.LifeRows.{LifeState}
 use Rattle.cb_shelf.specs.Newer.{HoldsNewer}
-use Rattle.cb_sql.specs.Writing.{Fits}
+use Rattle.cb_shelf.specs.Writing.{Fits}
 use Rattle.cb_serve.specs.Answering.{LacksNumber, Spells, after_inputs, inputs_in, said_to}
 use Rattle.cb_serve.specs.Calls.{IsFinal}
 use Rattle.cb_serve.specs.Living.{IsRoundOfLife, MakesRoom, MayMakeRoom, RefusesRoom}

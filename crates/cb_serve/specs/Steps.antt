@@ -1,6 +1,6 @@
 -- What is done with the first piece of a stream's bytes.
 use Rattle.std.specs.Prelude.{◌≡◌, ℕ, ◌<◌, List, [], ◌∷◌, ◌++◌, drop, true, false}
-use Rattle.cb_frame_types.specs.declared.frame.Frame.{Frame}
+use Rattle.cb_frame.specs.declared.frame.Frame.{Frame}
 use Rattle.cb_server.specs.ServerValue.{ServerValue, server_of}
 use Rattle.cb_server.specs.Taking.{lacks_number_for}
 use Rattle.cb_serve.specs.Answering.{LacksNumber, TakesPieces}

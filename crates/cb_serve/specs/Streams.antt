@@ -5,11 +5,11 @@ use Rattle.std.specs.Prelude.{take, Option, Some}
 use Rattle.cb_frame.specs.Checks.{body_length, causes}
 use Rattle.cb_frame.specs.declared.fault.FrameFault.{FrameFault}
 use Rattle.cb_frame.specs.declared.fault.FrameFault.TheVariants as fault
-use Rattle.cb_frame_types.specs.Grammar.{IsFrameInSome}
-use Rattle.cb_frame_types.specs.Kinds.{kind_of_body}
-use Rattle.cb_frame_types.specs.declared.frame.Frame.{Frame}
-use Rattle.cb_frame_types.specs.declared.kind.Kind.{Kind}
-use Rattle.cb_frame_types.specs.declared.kind.Kind.TheVariants as kind
+use Rattle.cb_frame.specs.Grammar.{IsFrameInSome}
+use Rattle.cb_frame.specs.Kinds.{kind_of_body}
+use Rattle.cb_frame.specs.declared.frame.Frame.{Frame}
+use Rattle.cb_frame.specs.declared.kind.Kind.{Kind}
+use Rattle.cb_frame.specs.declared.kind.Kind.TheVariants as kind
 use Rattle.cb_page.specs.Bounds.{Bounds}
 use Rattle.cb_page.specs.Faults.{first_fault}
 use Rattle.cb_shelf.specs.Living.{raise_end}

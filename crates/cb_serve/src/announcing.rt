@@ -5,7 +5,7 @@ ghost use Rattle.cb_serve.specs.Announcing.{StaysUnannounced, announcement};
 
 use crate::fault::RoundFault;
 use crate::output::put_out;
-use cb_frame_types::put_u64;
+use cb_frame::put_u64;
 use cb_page::Incarnation;
 use cb_shelf::Life;
 use std::alloc::{AllocError, Global};

@@ -2,8 +2,8 @@
 ghost use Rattle.std.specs.Prelude.{◌≡◌, ◌++◌, ℕ, take, IfErr, OnErr, OnOk};
 ghost use Rattle.std.specs.Io.KnownBytes.{Appends};
 ghost use Rattle.std.specs.List.{AllByRecursion, flat_map};
-ghost use Rattle.cb_frame_types.specs.Grammar.{Fits};
-ghost use Rattle.cb_frame_types.specs.Spelling.{spelling};
+ghost use Rattle.cb_frame.specs.Grammar.{Fits};
+ghost use Rattle.cb_frame.specs.Spelling.{spelling};
 ghost use Rattle.cb_serve.specs.Calls.{IsFinal};
 
 use crate::calls::{Refusal, flush, write_some};

@@ -1,6 +1,6 @@
 //! The pieces of a stream are taken.
 ghost use Rattle.std.specs.Prelude.{◌≡◌, ◌≤◌, ◌++◌, [], ◌∷◌, List, ℕ, IfErr, IfOk, OnOk};
-ghost use Rattle.cb_frame_types.specs.Grammar.{Fits};
+ghost use Rattle.cb_frame.specs.Grammar.{Fits};
 ghost use Rattle.cb_protocol.specs.AnyMessages.{SendsAgain};
 ghost use Rattle.cb_server.specs.Knowing.{KnowsBelow};
 ghost use Rattle.cb_server.specs.ServerValue.{server_of};

@@ -5,7 +5,7 @@ use Rattle.std.proofs.lemmas.Bool.Decides.{nat_tests}
 use Rattle.cb_client.specs.ByTable.{Calls, Takes, messages_from}
 use Rattle.cb_client.specs.FramesTaken.{TakesFrame, is_for}
 use Rattle.cb_client_core.specs.ClientState.{ClientState, client_of}
-use Rattle.cb_frame_types.specs.declared.frame.Frame.{Frame}
+use Rattle.cb_frame.specs.declared.frame.Frame.{Frame}
 use Rattle.cb_outbox.specs.Messages.{body_of, message_of}
 use Rattle.cb_page.specs.Bounds.{Bounds}
 use Rattle.cb_protocol.proofs.LifeImage.{in_left, in_right}

@@ -9,10 +9,10 @@ use Rattle.cb_commit.specs.Batches.{BatchState, after_batch}
 use Rattle.cb_page.specs.Bounds.{Bounds}
 use Rattle.cb_server.specs.Knowing.{KnowsBelow}
 use Rattle.cb_shelf.specs.LifeRows.{LifeState}
-use Rattle.cb_shelf_rows.proofs.Holding.{over_pages}
-use Rattle.cb_shelf_rows.proofs.Lives.{batch_keeps, follows, puts}
-use Rattle.cb_shelf_rows.proofs.Paging.{writes_batch}
-use Rattle.cb_shelf_rows.specs.Rows.{PutsLife, is_at, is_of_page, mark_columns}
+use Rattle.cb_shelf_laws.proofs.Holding.{over_pages}
+use Rattle.cb_shelf_laws.proofs.Lives.{batch_keeps, follows, puts}
+use Rattle.cb_shelf_laws.proofs.Paging.{writes_batch}
+use Rattle.cb_shelf_laws.specs.Rows.{PutsLife, is_at, is_of_page, mark_columns}
 use Rattle.cb_serve.specs.Living.{MakesRoom}
 use Rattle.cb_serve.specs.Living.MakesRoom.{had, made}
 use Rattle.cb_serve.specs.Rounds.{Round, Standing, Writes}

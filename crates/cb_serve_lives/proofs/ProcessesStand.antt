@@ -12,7 +12,7 @@ use Rattle.cb_client_core.proofs.Reaching.{starts}
 use Rattle.cb_client_core.specs.ClientState.{ClientState, new_state}
 use Rattle.cb_commit.specs.Batches.{BatchState}
 use Rattle.cb_commit.specs.Stores.{StoreState}
-use Rattle.cb_frame_types.specs.declared.frame.Frame.{Frame}
+use Rattle.cb_frame.specs.declared.frame.Frame.{Frame}
 use Rattle.cb_outbox.specs.Messages.{message_of, messages_of}
 use Rattle.cb_page.specs.Bounds.{Bounds}
 use Rattle.cb_protocol.proofs.HeadlineProof.{headline}

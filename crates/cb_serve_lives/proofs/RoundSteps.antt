@@ -22,7 +22,7 @@ use Rattle.cb_server.specs.Knowing.{KnowsBelow}
 use Rattle.cb_server_state.specs.Commits.{batch_of}
 use Rattle.cb_shelf.specs.LifeRows.{LifeState, life_row}
 use Rattle.cb_shelf.specs.Living as living
-use Rattle.cb_sql.specs.Statements.{MakesAll, batch_statements}
+use Rattle.cb_shelf.specs.Statements.{MakesAll, batch_statements}
 use Rattle.cb_serve.specs.Answering.{after_inputs, inputs_in, said_to}
 use Rattle.cb_serve.specs.Living.{IsRoundOfLife, MakesRoom}
 use Rattle.cb_serve.specs.Living.MakesRoom.{had, made}

@@ -3,13 +3,13 @@ use Rattle.std.proofs.Common.{◌≡◌, ◌<◌, ◌≤◌, ◌++◌, ℕ, List
 use Rattle.std.proofs.Common.{[], ◌∷◌, refl, sym, ◌∙◌, ap, subst, arith, inl, inr}
 use Rattle.std.specs.List.{AllByRecursion}
 use Rattle.std.specs.Prelude.{⊤}
-use Rattle.cb_frame_types.specs.Grammar as frames
-use Rattle.cb_frame_types.specs.declared.frame.Body as frame_body
-use Rattle.cb_frame_types.specs.declared.frame.Body.TheVariants as body
-use Rattle.cb_frame_types.specs.declared.frame.ShortBody.{ShortBody}
-use Rattle.cb_frame_types.specs.declared.frame.ShortBody.TheVariants as short
-use Rattle.cb_frame_types.specs.declared.writes.Write.{Write}
-use Rattle.cb_lives.proofs.CommitsAdded.{Adds, steps_add}
+use Rattle.cb_frame.specs.Grammar as frames
+use Rattle.cb_frame.specs.declared.frame.Body as frame_body
+use Rattle.cb_frame.specs.declared.frame.Body.TheVariants as body
+use Rattle.cb_frame.specs.declared.frame.ShortBody.{ShortBody}
+use Rattle.cb_frame.specs.declared.frame.ShortBody.TheVariants as short
+use Rattle.cb_frame.specs.declared.writes.Write.{Write}
+use Rattle.cb_laws.proofs.CommitsAdded.{Adds, steps_add}
 use Rattle.cb_outbox.specs.Messages.{body_of, page_writes, short_of}
 use Rattle.cb_page.specs.Bounds.{Bounds}
 use Rattle.cb_protocol.proofs.LedgerKept.{Books, books_all, books_start, told_done}

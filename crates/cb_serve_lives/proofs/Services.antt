@@ -7,7 +7,7 @@ use Rattle.sqlite.specs.Effect.{Database}
 use Rattle.sqlite.specs.Store.{Ghosts}
 use Rattle.cb_commit.specs.Batches.{BatchState, after_batch}
 use Rattle.cb_commit.specs.Stores.{StoreState, IsOf, bytes_at, version_at, zero_page, zeros}
-use Rattle.cb_lives.proofs.LifeBegins.{lives_are_reached}
+use Rattle.cb_laws.proofs.LifeBegins.{lives_are_reached}
 use Rattle.cb_page.specs.Bounds.{Bounds}
 use Rattle.cb_protocol.proofs.LifeImage.{back, in_append, in_left, in_right}
 use Rattle.cb_protocol.specs.AnyMessages.{IsCommit, Opened, ReachedBy, ReachesDisk, bytes_after}
@@ -28,16 +28,17 @@ use Rattle.cb_shelf.specs.LifeRows.{LifeState}
 use Rattle.cb_shelf.specs.Living as living
 use Rattle.cb_shelf.specs.Living.{Follows, life_from}
 use Rattle.cb_shelf.specs.Newer.{HoldsNewer}
-use Rattle.cb_shelf_rows.proofs.Answering.{answered_rows}
-use Rattle.cb_shelf_rows.proofs.Following.{batch_full, lays_zeros, leaves_shelf, zeros_full}
-use Rattle.cb_shelf_rows.proofs.Holding.{holds_rows, over_pages}
-use Rattle.cb_shelf_rows.proofs.Laying.{full_laid, life_laid}
-use Rattle.cb_shelf_rows.proofs.Lives.{batch_keeps, begins, follows, row_set, store_left, unlived_begins}
-use Rattle.cb_shelf_rows.proofs.Paging.{writes_batch}
-use Rattle.cb_shelf_rows.proofs.Unlived.{unlived_kept}
-use Rattle.cb_shelf_rows.specs.Rows.{HasFullPages, HasStore, IsLife}
-use Rattle.cb_shelf_stops.specs.Stops.{FirstOpen}
-use Rattle.cb_shelf_stops.specs.Stops.FirstOpen.{copied, found, made, unlived}
+use Rattle.cb_shelf_laws.proofs.Answering.{answered_rows}
+use Rattle.cb_shelf_laws.proofs.Following.{batch_full, lays_zeros, leaves_shelf, zeros_full}
+use Rattle.cb_shelf_laws.proofs.Holding.{holds_rows, over_pages}
+use Rattle.cb_shelf_laws.proofs.Laying.{full_laid, life_laid}
+use Rattle.cb_shelf_laws.proofs.Lives.{batch_keeps, begins, follows, row_set, store_left}
+use Rattle.cb_shelf_laws.proofs.Lives.{unlived_begins}
+use Rattle.cb_shelf_laws.proofs.Paging.{writes_batch}
+use Rattle.cb_shelf_laws.proofs.Unlived.{unlived_kept}
+use Rattle.cb_shelf_laws.specs.Rows.{HasFullPages, HasStore, IsLife}
+use Rattle.cb_shelf_laws.specs.Stops.{FirstOpen}
+use Rattle.cb_shelf_laws.specs.Stops.FirstOpen.{copied, found, made, unlived}
 use Rattle.cb_serve.specs.Answering.{after_inputs, inputs_in, said_to}
 use Rattle.cb_serve.specs.Serving.{opened}
 use Rattle.cb_serve_lives.proofs.BatchStore.{batch_on_disk, in_up_to, the_next, up_to_later}

@@ -9,7 +9,7 @@ use Rattle.cb_page.specs.Bounds.{Bounds}
 use Rattle.cb_server.specs.Knowing.{KnowsBelow}
 use Rattle.cb_shelf.specs.LifeRows.{LifeState}
 use Rattle.cb_shelf.specs.Living.{Follows}
-use Rattle.cb_shelf_rows.specs.Rows.{HasStore, IsLife}
+use Rattle.cb_shelf_laws.specs.Rows.{HasStore, IsLife}
 use Rattle.cb_serve.specs.Rounds.{Round, Standing}
 use Rattle.cb_serve.specs.Serving.{AreRounds}
 

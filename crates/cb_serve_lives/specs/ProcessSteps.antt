@@ -8,7 +8,7 @@ use Rattle.cb_client.specs.ByTable.{Calls}
 use Rattle.cb_client.specs.FramesTaken.{TakesFrame}
 use Rattle.cb_client_core.specs.ClientState.{ClientState, new_state}
 use Rattle.cb_commit.specs.Batches.{BatchState}
-use Rattle.cb_frame_types.specs.declared.frame.Frame.{Frame}
+use Rattle.cb_frame.specs.declared.frame.Frame.{Frame}
 use Rattle.cb_outbox.specs.Messages.{body_of, message_of, messages_of}
 use Rattle.cb_page.specs.Bounds.{Bounds}
 use Rattle.cb_protocol.specs.AnyMessages.{Input, MessageComes, ReachesDisk, input_steps}

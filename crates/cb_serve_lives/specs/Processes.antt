@@ -3,7 +3,7 @@ use Rattle.std.specs.Prelude.{◌≡◌, ◌≤◌, ℕ, Bool, true, List, [], O
 use Rattle.cb_client_core.specs.ClientState.{ClientState}
 use Rattle.cb_commit.specs.Stores as stores
 use Rattle.cb_commit.specs.Stores.{StoreState}
-use Rattle.cb_frame_types.specs.declared.frame.Frame.{Frame}
+use Rattle.cb_frame.specs.declared.frame.Frame.{Frame}
 use Rattle.cb_page.specs.Bounds.{Bounds}
 use Rattle.cb_protocol.specs.Basics.{max_number}
 use Rattle.cb_protocol.specs.Serial.{PerformedOperation}

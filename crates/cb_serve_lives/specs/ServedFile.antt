@@ -21,16 +21,16 @@ use Rattle.cb_protocol.specs.World.{Opening, opening_store}
 use Rattle.cb_server.specs.Knowing.{KnowsBelow}
 use Rattle.cb_server_state.specs.Commits.{batch_of}
 use Rattle.cb_server_state.specs.States.{limits_of, opening_of}
-use Rattle.cb_sql.specs.Inside.{IsSettled}
-use Rattle.cb_sql.specs.Statements.{MakesAll, batch_statements}
-use Rattle.cb_sql.specs.Writing.{Fits}
+use Rattle.cb_shelf.specs.Inside.{IsSettled}
+use Rattle.cb_shelf.specs.Statements.{MakesAll, batch_statements}
+use Rattle.cb_shelf.specs.Writing.{Fits}
 use Rattle.cb_shelf.specs.LifeRows.{LifeState, life_row}
 use Rattle.cb_shelf.specs.Living.{Follows, life_statements}
 use Rattle.cb_shelf.specs.Living as living
 use Rattle.cb_shelf.specs.Newer.{HoldsNewer}
 use Rattle.cb_shelf.specs.Opening.{LaysOut}
-use Rattle.cb_shelf_rows.specs.Rows.{HasFullPages}
-use Rattle.cb_shelf_stops.specs.Stops.{FirstOpen}
+use Rattle.cb_shelf_laws.specs.Rows.{HasFullPages}
+use Rattle.cb_shelf_laws.specs.Stops.{FirstOpen}
 use Rattle.cb_serve.specs.Answering.{after_inputs, inputs_in, said_to}
 use Rattle.cb_serve.specs.Rounds.{Round, Standing, reached}
 use Rattle.cb_serve.specs.Serving.{AreRounds, opened}

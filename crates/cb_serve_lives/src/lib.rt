@@ -2,7 +2,7 @@
 //! which world of the protocol a service and its clients are.
 //!
 //! The crate has no code. Its laws put together what `cb_serve` says of rounds, what
-//! `cb_shelf_rows` says of a file's rows, and what `cb_client` says of clients.
+//! `cb_shelf_laws` says of a file's rows, and what `cb_client` says of clients.
 #![tactic(auto)]
 
 ghost use Rattle.cb_serve_lives.specs.NextLife.{NextLifeIsNew};
@@ -63,7 +63,7 @@ pub fn processes_are_worlds<S: Alter>()
 ///
 /// By the definition of a step, a stop keeps what was committed, and nobody else writes the file.
 /// What the first open found, and its premises, are as in `loads_follow_commits` of
-/// `cb_shelf_stops`. Each service has limits of its own, of which the tables fix the pages and
+/// `cb_shelf_laws`. Each service has limits of its own, of which the tables fix the pages and
 /// their size.
 pub fn services_are_lives<S: Alter>()
     ensures restart { ServicesRestart S.Store }

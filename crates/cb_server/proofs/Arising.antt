@@ -6,13 +6,13 @@ use Rattle.cb_server_state.specs.States.{server_of, AreOf, Stays, limits_of, ope
 use Rattle.cb_server_state.specs.declared.server_state.ServerState.{ServerState}
 use Rattle.cb_commit.specs.History.{WritesInto}
 use Rattle.cb_commit.specs.Stores.{IsOf, IsSound, IsStored, StoreState, no_page}
-use Rattle.cb_frame_types.specs.Grammar as grammar
-use Rattle.cb_frame_types.specs.declared.frame.Body.{Body}
-use Rattle.cb_frame_types.specs.declared.frame.Body.TheVariants as body
-use Rattle.cb_frame_types.specs.declared.frame.Frame.{Frame}
-use Rattle.cb_frame_types.specs.declared.frame.ShortBody.{ShortBody}
-use Rattle.cb_frame_types.specs.declared.frame.ShortBody.TheVariants as short
-use Rattle.cb_frame_types.specs.declared.writes.Write.{Write}
+use Rattle.cb_frame.specs.Grammar as grammar
+use Rattle.cb_frame.specs.declared.frame.Body.{Body}
+use Rattle.cb_frame.specs.declared.frame.Body.TheVariants as body
+use Rattle.cb_frame.specs.declared.frame.Frame.{Frame}
+use Rattle.cb_frame.specs.declared.frame.ShortBody.{ShortBody}
+use Rattle.cb_frame.specs.declared.frame.ShortBody.TheVariants as short
+use Rattle.cb_frame.specs.declared.writes.Write.{Write}
 use Rattle.cb_outbox.specs.Messages.{body_of, message_of, messages_of, page_writes, short_of}
 use Rattle.cb_page.specs.Bounds.{Bounds}
 use Rattle.cb_page.specs.Rising.{RisesFrom}

@@ -1,7 +1,7 @@
 -- A server of a new life is one that has taken a Hello of its floor from each client.
 use Rattle.std.proofs.Common.{◌≡◌, ℕ, ◌+◌, ◌≤◌, ap, ◌∙◌, sym}
 use Rattle.cb_commit.specs.Stores.{StoreState}
-use Rattle.cb_lives.proofs.LifeBegins.{greeted, greets_alone, none_greeted}
+use Rattle.cb_laws.proofs.LifeBegins.{greeted, greets_alone, none_greeted}
 use Rattle.cb_page.specs.Bounds.{Bounds}
 use Rattle.cb_protocol.specs.AnyMessages.{MessageComes, input_steps}
 use Rattle.cb_protocol.specs.Messages.{Hello}

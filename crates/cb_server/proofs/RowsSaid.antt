@@ -7,7 +7,7 @@ use Rattle.cb_commit.specs.Stores.{IsSound, IsStored, StoreState, no_page, versi
 use Rattle.cb_laws.proofs.RowFacts.{weaker}
 use Rattle.cb_laws.proofs.RowVersions.{Kept, kept_by_server, kept_input, kept_new, row_versions}
 use Rattle.cb_laws.specs.RowVersions.{SentAfter, SentByServer, SentNothing}
-use Rattle.cb_lives.proofs.LifeBegins.{greeted, greets_alone, none_greeted}
+use Rattle.cb_laws.proofs.LifeBegins.{greeted, greets_alone, none_greeted}
 use Rattle.cb_page.specs.Bounds.{Bounds}
 use Rattle.cb_protocol.specs.AnyMessages.{MessageComes, input_steps}
 use Rattle.cb_protocol.specs.Basics.{IsIn, Limits}

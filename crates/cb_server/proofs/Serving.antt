@@ -5,8 +5,8 @@ use Rattle.cb_server_state.specs.States as states
 use Rattle.cb_server_state.specs.declared.server_state.ServerState.{ServerState}
 use Rattle.cb_commit.specs.History.{CommitsState, begun}
 use Rattle.cb_commit.specs.Stores.{IsOf, IsSound, StoreState}
-use Rattle.cb_frame_types.specs.Grammar as grammar
-use Rattle.cb_frame_types.specs.declared.frame.Frame.{Frame}
+use Rattle.cb_frame.specs.Grammar as grammar
+use Rattle.cb_frame.specs.declared.frame.Frame.{Frame}
 use Rattle.cb_server_state.specs.States.{AreOf, limits_of, opening_of}
 use Rattle.cb_outbox.specs.Messages.{body_of, messages_of}
 use Rattle.cb_outbox.specs.Saying.{OutboxState}

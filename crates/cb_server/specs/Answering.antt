@@ -6,9 +6,9 @@ use Rattle.cb_asks.specs.Asks.{asks_below, room_at}
 use Rattle.cb_callbacks.specs.Numbers as numbers
 use Rattle.cb_callbacks.specs.Numbers.{IsLiveOne}
 use Rattle.cb_commit.specs.History.{FitsInto}
-use Rattle.cb_frame_types.specs.declared.frame.Body.{Body}
-use Rattle.cb_frame_types.specs.declared.frame.Body.TheVariants as body
-use Rattle.cb_frame_types.specs.declared.writes.Write.{Write}
+use Rattle.cb_frame.specs.declared.frame.Body.{Body}
+use Rattle.cb_frame.specs.declared.frame.Body.TheVariants as body
+use Rattle.cb_frame.specs.declared.writes.Write.{Write}
 use Rattle.cb_links.specs.declared.sessions.Standing.{Standing}
 use Rattle.cb_outbox.specs.Messages.{short_of}
 use Rattle.cb_outbox.specs.Saying.{Says}

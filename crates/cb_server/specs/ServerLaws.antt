@@ -1,7 +1,7 @@
 -- What holds of every server, whatever was called before, by the contracts of its calls.
 use Rattle.std.specs.Prelude.{◌≡◌, ◌⊎◌, ℕ, true, false, List, ◌∷◌, ◌++◌, Option}
-use Rattle.cb_frame_types.specs.Grammar.{Fits}
-use Rattle.cb_frame_types.specs.declared.frame.Frame.{Frame}
+use Rattle.cb_frame.specs.Grammar.{Fits}
+use Rattle.cb_frame.specs.declared.frame.Frame.{Frame}
 use Rattle.cb_laws.specs.RowVersions.{GrantedSent, HasRow}
 use Rattle.cb_protocol.specs.AnyMessages.{Input, RulesHold, input_steps}
 use Rattle.cb_protocol.specs.AskLaws.{MayBeMet}

@@ -5,8 +5,8 @@ use Rattle.cb_asks.specs.Asks.{asks_below}
 use Rattle.cb_frame.specs.Checks.{causes, fault_in_bytes}
 use Rattle.cb_frame.specs.declared.fault.BytesFault.{BytesFault}
 use Rattle.cb_frame.specs.declared.fault.BytesFault.TheVariants as reading
-use Rattle.cb_frame_types.specs.Grammar.{IsFrameInSome}
-use Rattle.cb_frame_types.specs.declared.frame.Frame.{Frame}
+use Rattle.cb_frame.specs.Grammar.{IsFrameInSome}
+use Rattle.cb_frame.specs.declared.frame.Frame.{Frame}
 use Rattle.cb_outbox.specs.Messages.{body_of}
 use Rattle.cb_page.specs.Faults.{first_fault}
 use Rattle.cb_protocol.specs.AnyMessages.{Input, MessageComes, SendsAgain, input_steps}

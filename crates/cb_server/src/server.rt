@@ -10,7 +10,7 @@ ghost use Rattle.cb_commit.specs.Stores.{IsOf};
 ghost use Rattle.cb_frame.specs.Checks.{has_pages, kind_of};
 ghost use Rattle.cb_frame.specs.declared.fault.BytesFault.TheVariants as reading;
 ghost use Rattle.cb_frame.specs.declared.fault.FrameFault.TheVariants as fault;
-ghost use Rattle.cb_frame_types.specs.Grammar.{Fits};
+ghost use Rattle.cb_frame.specs.Grammar.{Fits};
 ghost use Rattle.cb_outbox.specs.Messages.{messages_of};
 ghost use Rattle.cb_protocol.specs.AnyMessages.{ReachesDisk, SendsAgain};
 ghost use Rattle.cb_protocol.specs.Flush.{can_flush, next_batch};

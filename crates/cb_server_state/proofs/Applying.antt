@@ -11,7 +11,7 @@ use Rattle.cb_commit.specs.declared.commit.Commit.{Commit}
 use Rattle.cb_directory.specs.Directories as directory
 use Rattle.cb_directory.specs.Directories.{DirectoryState, ReleasesAll, holder, row}
 use Rattle.cb_directory.specs.RowTables.{IsAsLarge}
-use Rattle.cb_frame_types.specs.declared.writes.Write.{Write}
+use Rattle.cb_frame.specs.declared.writes.Write.{Write}
 use Rattle.cb_links.specs.Changes.{ended, ended_transaction, is_live_transaction, session_of}
 use Rattle.cb_links.specs.declared.sessions.Session.{Session}
 use Rattle.cb_links.specs.declared.sessions.Transaction.{Transaction}

@@ -12,9 +12,9 @@ use Rattle.cb_commit.specs.History.{CanFlush, CommitsState, FitsInto, WritesInto
 use Rattle.cb_commit.specs.Stores.{StoreState, no_page}
 use Rattle.cb_commit.specs.declared.commit.Commit.{Commit}
 use Rattle.cb_commit.specs.declared.store.StoredPage.{StoredPage}
-use Rattle.cb_frame_types.specs.Grammar.{page_of}
-use Rattle.cb_frame_types.specs.declared.frame.Frame.{Frame}
-use Rattle.cb_frame_types.specs.declared.writes.Write.{Write}
+use Rattle.cb_frame.specs.Grammar.{page_of}
+use Rattle.cb_frame.specs.declared.frame.Frame.{Frame}
+use Rattle.cb_frame.specs.declared.writes.Write.{Write}
 use Rattle.cb_page.specs.Rising.{RisesFrom}
 use Rattle.cb_protocol.specs.Flush as protocol
 use Rattle.cb_protocol.specs.Messages.{Done, PageWrite, write_of_page}

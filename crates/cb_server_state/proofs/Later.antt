@@ -8,7 +8,7 @@ use Rattle.cb_asks.specs.Marks.{MarksState, is_in_use}
 use Rattle.cb_commit.specs.History.{FitsInto}
 use Rattle.cb_directory.specs.Directories.{DirectoryState, ReleasesAll, holder}
 use Rattle.cb_directory.specs.RowTables.{IsAsLarge}
-use Rattle.cb_frame_types.specs.declared.writes.Write.{Write}
+use Rattle.cb_frame.specs.declared.writes.Write.{Write}
 use Rattle.cb_links.specs.Changes as links
 use Rattle.cb_links.specs.Changes.{is_live_transaction, session_of}
 use Rattle.cb_links.specs.declared.sessions.Session.{Session}

@@ -18,12 +18,12 @@ use Rattle.cb_page.specs.Bounds.{Bounds}
 use Rattle.cb_page.specs.Numbers.{max_number}
 use Rattle.cb_commit.specs.declared.store.StoredPage.{StoredPage}
 use Rattle.cb_commit.specs.Stores.{StoreState, no_page}
-use Rattle.cb_sql.specs.declared.fault.ShelfFault.{ShelfFault}
-use Rattle.cb_sql.specs.declared.fault.ShelfFault.TheVariants.{Shape, Memory}
-use Rattle.cb_sql.specs.Statements.{Statement, part_at, part_count}
-use Rattle.cb_sql.specs.Asking.{Replies, HasFrom, IsRow, RepliesRow, RepliesElse}
-use Rattle.cb_sql.specs.Inside.{Tells, IsNever}
-use Rattle.cb_sql.proofs.Asking.{tells_judged, tells_nothing}
+use Rattle.cb_shelf.specs.declared.fault.ShelfFault.{ShelfFault}
+use Rattle.cb_shelf.specs.declared.fault.ShelfFault.TheVariants.{Shape, Memory}
+use Rattle.cb_shelf.specs.Statements.{Statement, part_at, part_count}
+use Rattle.cb_shelf.specs.Asking.{Replies, HasFrom, IsRow, RepliesRow, RepliesElse}
+use Rattle.cb_shelf.specs.Inside.{Tells, IsNever}
+use Rattle.cb_shelf.proofs.Asking.{tells_judged, tells_nothing}
 use Rattle.cb_shelf.specs.declared.reading.Generation.{Generation}
 use Rattle.cb_shelf.specs.Reading.{question, mark_text, pages_text, parts_text, version_text, part_text, version_of, part_of, number_values, mark_values, HasParts, HasPage, HasPages, Holds, IsMark, IsNumber, IsUpTo, IsBytes, part_length}
 

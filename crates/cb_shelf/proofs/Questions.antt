@@ -2,8 +2,8 @@
 use Rattle.std.proofs.Common.{◌≡◌, true, refl}
 use Rattle.sqlite_resolve.specs.Compile.{first}
 use Rattle.sqlite_tied.specs.Compute.{everything}
-use Rattle.cb_sql.specs.Asking.{IsQuestion}
-use Rattle.cb_sql.proofs.Asking.{asks, is_question}
+use Rattle.cb_shelf.specs.Asking.{IsQuestion}
+use Rattle.cb_shelf.proofs.Asking.{asks, is_question}
 use Rattle.cb_shelf.specs.declared.reading.Generation.{Generation}
 use Rattle.cb_shelf.specs.declared.reading.Generation.TheVariants.{Older, Newer}
 use Rattle.cb_shelf.specs.Reading.{mark_text, pages_text, parts_text, version_text, part_text}

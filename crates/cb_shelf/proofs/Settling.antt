@@ -5,8 +5,8 @@ use Rattle.sqlite.specs.State.{HasCleanDisk, Survives}
 use Rattle.sqlite.specs.Held.{Held, state}
 use Rattle.sqlite.proofs.StateLemmas.{survives_then}
 use Rattle.sqlite.proofs.Callers.{survives_begin}
-use Rattle.cb_sql.specs.Statements.{Statement, MakesAll}
-use Rattle.cb_sql.specs.Inside.{Inside, IsSame}
+use Rattle.cb_shelf.specs.Statements.{Statement, MakesAll}
+use Rattle.cb_shelf.specs.Inside.{Inside, IsSame}
 use Rattle.cb_shelf.specs.LifeRows.{LifeState}
 use Rattle.cb_shelf.specs.Living.{Begun, TellsBelow, life_from, life_statements}
 use Rattle.cb_shelf.specs.Opening.{LaysOut, LaidBy, Opened, Finds, laid}

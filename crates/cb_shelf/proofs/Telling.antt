@@ -6,11 +6,11 @@ use Rattle.sqlite.specs.Effect.{Database}
 use Rattle.sqlite.specs.State.{Survives}
 use Rattle.sqlite.specs.Held.{Held, state}
 use Rattle.cb_page.specs.Bounds.{Bounds}
-use Rattle.cb_sql.specs.declared.fault.ShelfFault.{ShelfFault}
-use Rattle.cb_sql.specs.declared.fault.ShelfFault.TheVariants.{Shape}
-use Rattle.cb_sql.specs.Asking.{RepliesRow}
-use Rattle.cb_sql.specs.Inside.{Tells, IsNever}
-use Rattle.cb_sql.proofs.Asking.{tells_then}
+use Rattle.cb_shelf.specs.declared.fault.ShelfFault.{ShelfFault}
+use Rattle.cb_shelf.specs.declared.fault.ShelfFault.TheVariants.{Shape}
+use Rattle.cb_shelf.specs.Asking.{RepliesRow}
+use Rattle.cb_shelf.specs.Inside.{Tells, IsNever}
+use Rattle.cb_shelf.proofs.Asking.{tells_then}
 use Rattle.cb_shelf.specs.Reading.{question, number_values}
 use Rattle.cb_shelf.specs.Opening.{page_count, mark_count, HasRows, Has, MisfitsFor, Misshapen}
 use Rattle.cb_shelf.specs.Opening.Misshapen.{older_rows, newer_rows}

@@ -6,8 +6,8 @@ use Rattle.cb_commit.specs.declared.commit.Commit.{Commit}
 use Rattle.cb_commit.specs.Stores.{StoreState, IsSound}
 use Rattle.cb_commit.specs.Batches.{BatchState, after_batch}
 use Rattle.cb_commit.specs.History.{CommitsState, FitsInto, applied, begun, store_at}
-use Rattle.cb_sql.specs.Inside.{IsSame, IsSettled}
-use Rattle.cb_sql.specs.Statements.{MakesAll, batch_statements}
+use Rattle.cb_shelf.specs.Inside.{IsSame, IsSettled}
+use Rattle.cb_shelf.specs.Statements.{MakesAll, batch_statements}
 use Rattle.cb_shelf.specs.Flushing.{to_write, once_written}
 
 -- The commits of a server, the batch that is held, the one that was written and isn't reported yet,

@@ -4,12 +4,12 @@ use Rattle.sqlite.specs.Held.{Held, state}
 use Rattle.sqlite.specs.State.{HasCleanDisk}
 use Rattle.sqlite.specs.Store.{Ghosts}
 use Rattle.cb_page.specs.Bounds.{Bounds}
-use Rattle.cb_frame_types.specs.declared.frame.Frame.{Frame}
+use Rattle.cb_frame.specs.declared.frame.Frame.{Frame}
 use Rattle.cb_commit.specs.Batches.{BatchState}
 use Rattle.cb_commit.specs.History.{CommitsState, dones_between, next_batch}
-use Rattle.cb_sql.specs.Inside.{IsSame, IsSettled}
-use Rattle.cb_sql.specs.Statements.{MakesAll, batch_statements}
-use Rattle.cb_sql.specs.Writing.{Fits}
+use Rattle.cb_shelf.specs.Inside.{IsSame, IsSettled}
+use Rattle.cb_shelf.specs.Statements.{MakesAll, batch_statements}
+use Rattle.cb_shelf.specs.Writing.{Fits}
 
 -- what is written: the batch that is held, or else the next
 abbrev pub to_write : Option BatchState → CommitsState → Option BatchState

@@ -1,3 +1,9 @@
+pub mod Faults
+pub mod Statements
+pub mod Inside
+pub mod Writing
+pub mod Asking
+pub mod FaultTexts
 pub mod Reading
 pub mod Opening
 pub mod Flushing

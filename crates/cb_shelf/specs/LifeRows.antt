@@ -1,7 +1,7 @@
 -- The row that tells of the lives of servers over a shelf.
 use Rattle.std.specs.Prelude.{ℕ, pos, Bool, if◌then◌else◌, List, [], ◌∷◌, ◌++◌, codes}
 use Rattle.sqlite.specs.declared.types.Value.TheVariants.{Int}
-use Rattle.cb_sql.specs.Statements.{Statement}
+use Rattle.cb_shelf.specs.Statements.{Statement}
 
 -- A life of a server: its floor, and a number above each incarnation that its server may know.
 pub record LifeState : Type 0 where

@@ -6,9 +6,9 @@ use Rattle.sqlite.specs.Effect.{Database}
 use Rattle.sqlite.specs.Tree.{Trees}
 use Rattle.sqlite.specs.Held.{Held, state}
 use Rattle.cb_page.specs.Numbers.{max_number}
-use Rattle.cb_sql.specs.Asking.{RepliesRow, RepliesElse}
-use Rattle.cb_sql.specs.Inside.{can_answer}
-use Rattle.cb_sql.specs.Statements.{Statement, MakesAll}
+use Rattle.cb_shelf.specs.Asking.{RepliesRow, RepliesElse}
+use Rattle.cb_shelf.specs.Inside.{can_answer}
+use Rattle.cb_shelf.specs.Statements.{Statement, MakesAll}
 use Rattle.cb_shelf.specs.LifeRows.{LifeState, life_row, life_table, unkept_below}
 use Rattle.cb_shelf.specs.Opening.{plain}
 use Rattle.cb_shelf.specs.Reading.{question, number_values, IsNumber}

@@ -10,15 +10,15 @@ use Rattle.sqlite.specs.Held.{Held, state}
 use Rattle.cb_page.specs.Bounds.{Bounds}
 use Rattle.cb_commit.specs.Stores.{StoreState, IsOf, zeros, version_at, bytes_at}
 use Rattle.sqlite_schema.specs.declared.schema.Schema.{Schema}
-use Rattle.cb_sql.specs.Inside.{can_answer}
+use Rattle.cb_shelf.specs.Inside.{can_answer}
 use Rattle.cb_shelf.specs.declared.opening.TablesFound.{TablesFound}
 use Rattle.cb_shelf.specs.declared.opening.TablesFound.TheVariants.{Nothing as none, Old as older}
 use Rattle.cb_shelf.specs.declared.opening.TablesFound.TheVariants.{New as newer}
 use Rattle.cb_shelf.specs.declared.opening.Found.{Found}
 use Rattle.cb_shelf.specs.declared.opening.Found.TheVariants.{Nothing, Old, New}
-use Rattle.cb_sql.specs.Statements.{Statement, MakesAll, page_statements}
-use Rattle.cb_sql.specs.declared.writing.PageRows.TheVariants.{Absent}
-use Rattle.cb_sql.specs.Asking.{RepliesRow, RepliesElse}
+use Rattle.cb_shelf.specs.Statements.{Statement, MakesAll, page_statements}
+use Rattle.cb_shelf.specs.declared.rows.PageRows.TheVariants.{Absent}
+use Rattle.cb_shelf.specs.Asking.{RepliesRow, RepliesElse}
 use Rattle.cb_shelf.specs.declared.reading.Generation.TheVariants.{Older, Newer}
 use Rattle.cb_shelf.specs.LifeRows.{life_row, life_table, unserved}
 use Rattle.cb_shelf.specs.Reading.{question, number_values, IsNumber, Holds, Misfits}

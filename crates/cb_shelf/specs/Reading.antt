@@ -8,8 +8,8 @@ use Rattle.cb_page.specs.Bounds.{Bounds}
 use Rattle.cb_page.specs.Numbers.{max_number}
 use Rattle.cb_commit.specs.declared.store.StoredPage.{StoredPage}
 use Rattle.cb_commit.specs.Stores.{StoreState, no_page}
-use Rattle.cb_sql.specs.Statements.{Statement, part_at, part_count}
-use Rattle.cb_sql.specs.Asking.{RepliesRow, RepliesElse}
+use Rattle.cb_shelf.specs.Statements.{Statement, part_at, part_count}
+use Rattle.cb_shelf.specs.Asking.{RepliesRow, RepliesElse}
 use Rattle.cb_shelf.specs.declared.reading.Generation.{Generation}
 use Rattle.cb_shelf.specs.declared.reading.Generation.TheVariants.{Older, Newer}
 

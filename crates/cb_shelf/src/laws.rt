@@ -6,10 +6,10 @@ ghost use Rattle.cb_shelf.specs.Events.{TablesFollow};
 /// holds whatever is committed, at whichever step of a flush, and however often a batch is written
 /// before it is reported.
 ///
-/// [`crate::flush_once`] says which steps each of its calls is, all in one. A running program takes
+/// [`flush_once`] says which steps each of its calls is, all in one. A running program takes
 /// the batch, writes it and reports it while others commit. Each of these is a step of its own
-/// there; the last two are those of [`crate::write_and_report`], which both use. The premise is
-/// that the statements of a batch write it over the store in the tables. `cb_shelf_rows` proves
+/// there; the last two are those of [`write_and_report`], which both use. The premise is
+/// that the statements of a batch write it over the store in the tables. `cb_shelf_laws` proves
 /// that of a shelf's own tables.
 pub fn tables_follow_commits()
     ensures law { TablesFollow }

@@ -5,19 +5,28 @@
 //! number of a batch in one transaction, so that a stop at any call leaves the batch whole or not
 //! there at all. [`flush_once`] writes what a server committed and reports it; whoever shares the
 //! server with others does so by [`write_and_report`].
+//!
+//! [`run`], [`ask`] and [`is_there`] are single statements. In contracts each is a step (`Inside`),
+//! and changes the database as the statements do that ran (`MakesAll`). [`put_mark`], [`put_page`]
+//! and [`put_pages`] are made of them.
 #![tactic(auto)]
 
+mod fault;
 mod flush;
 mod laws;
 mod life;
 mod opening;
 mod reading;
+mod rows;
 mod shelf;
+mod step;
 mod writing;
 
-pub use cb_sql::ShelfFault;
+pub use fault::ShelfFault;
 pub use flush::{Reports, flush_once, write_and_report};
 pub use laws::tables_follow_commits;
 pub use life::Life;
+pub use rows::{PART, PageRows, fits, part_count, put_mark, put_page, put_pages};
 pub use shelf::Shelf;
+pub use step::{ask, is_there, run};
 pub use writing::Written;

@@ -4,8 +4,8 @@ ghost use Rattle.std.specs.Prelude.{OnErr};
 ghost use Rattle.std.specs.Prelude.{IsTrue};
 ghost use Rattle.sqlite.specs.State.{HasCleanDisk, Survives};
 ghost use Rattle.sqlite.specs.Held.{state};
-ghost use Rattle.cb_sql.specs.Statements.{MakesAll};
-ghost use Rattle.cb_sql.specs.Inside.{Inside, IsAny, IsSame, IsSettled, Tells};
+ghost use Rattle.cb_shelf.specs.Statements.{MakesAll};
+ghost use Rattle.cb_shelf.specs.Inside.{Inside, IsAny, IsSame, IsSettled, Tells};
 ghost use Rattle.cb_page.specs.Numbers.{max_number};
 ghost use Rattle.cb_shelf.specs.LifeRows.{life_row, life_table, unserved};
 ghost use Rattle.cb_shelf.specs.Living.{Begun, EndsLives, Follows, HasLifeFrom, MadeBy, TellsBelow};
@@ -14,8 +14,8 @@ ghost use Rattle.cb_shelf.specs.Living.{raised};
 ghost use Rattle.cb_shelf.specs.Opening.{LaidBy, plain};
 
 use crate::reading::ask_number;
+use crate::{ShelfFault, is_there, run};
 use cb_page::{Incarnation, MAX_NUMBER};
-use cb_sql::{ShelfFault, is_there, run};
 use sqlite::{Alter, Connection, Transaction, params};
 use std::marker::Model;
 

@@ -5,8 +5,8 @@ ghost use Rattle.sqlite.specs.State.{HasCleanDisk, Survives};
 ghost use Rattle.sqlite.specs.Effect.{Database};
 ghost use Rattle.sqlite.specs.Held.{state};
 ghost use Rattle.cb_commit.specs.Stores.{IsOf, zeros};
-ghost use Rattle.cb_sql.specs.Statements.{MakesAll};
-ghost use Rattle.cb_sql.specs.Inside.{Inside, IsAny, IsSame, IsSettled, Tells};
+ghost use Rattle.cb_shelf.specs.Statements.{MakesAll};
+ghost use Rattle.cb_shelf.specs.Inside.{Inside, IsAny, IsSame, IsSettled, Tells};
 ghost use Rattle.cb_shelf.specs.Opening.{LaysOut, LaidBy, Opened, IsFound, table_statements};
 ghost use Rattle.cb_shelf.specs.Opening.{Has, HasOld, HasNew, HasRows, HasRowsIf, Uncounted};
 ghost use Rattle.cb_shelf.specs.Opening.{IsMixed, tables_of, IsFoundIn, Finds, MisfitsFor};
@@ -15,9 +15,9 @@ ghost use Rattle.cb_shelf.specs.Opening.{clear_statements, first_pages, laid, ma
 
 use crate::life::{create_table, put_unserved};
 use crate::reading::{Generation, ask_number, read_store};
+use crate::{PageRows, ShelfFault, is_there, put_page, run};
 use cb_commit::Store;
 use cb_page::{Limits, PageNo};
-use cb_sql::{PageRows, ShelfFault, is_there, put_page, run};
 use sqlite::{Alter, Connection, Transaction, params};
 use std::alloc::Global;
 

@@ -10,9 +10,9 @@ ghost use Rattle.sqlite.specs.Order.{column};
 ghost use Rattle.sqlite.specs.declared.types.Value.TheVariants.{Int, Blob};
 ghost use Rattle.cb_page.specs.Numbers.{max_number};
 ghost use Rattle.cb_commit.specs.Stores.{IsOf, IsStored};
-ghost use Rattle.cb_sql.specs.Statements.{part_count};
-ghost use Rattle.cb_sql.specs.Inside.{Inside, IsAny, IsSame, Tells};
-ghost use Rattle.cb_sql.specs.Asking.{IsQuestion, IsRow, HasFrom, RepliesRow, RepliesElse};
+ghost use Rattle.cb_shelf.specs.Statements.{part_count};
+ghost use Rattle.cb_shelf.specs.Inside.{Inside, IsAny, IsSame, Tells};
+ghost use Rattle.cb_shelf.specs.Asking.{IsQuestion, IsRow, HasFrom, RepliesRow, RepliesElse};
 ghost use Rattle.cb_shelf.specs.Reading.{mark_text, pages_text, parts_text, version_text};
 ghost use Rattle.cb_shelf.specs.Reading.{part_text, question, version_of, part_of, mark_values};
 ghost use Rattle.cb_shelf.specs.Reading.{number_values};
@@ -21,9 +21,9 @@ ghost use Rattle.cb_shelf.specs.Reading.{IsUpTo, IsBytes, part_length, LacksPart
 ghost use Rattle.cb_shelf.specs.Reading.{LacksPage, Misfits};
 ghost use Rattle.cb_shelf.specs.declared.reading.Generation.TheVariants.{Newer as newer};
 
+use crate::{PART, ShelfFault, ask, part_count};
 use cb_commit::{Store, StoredPage};
 use cb_page::{Limits, MAX_NUMBER, Page, PageNo, Version};
-use cb_sql::{PART, ShelfFault, ask, part_count};
 use sqlite::types::ValueRef;
 use sqlite::{Alter, Connection, Row, Transaction, params};
 use std::alloc::Global;

@@ -6,23 +6,23 @@ ghost use Rattle.std.specs.Prelude.{IfOk, IfErr, OnOk, OnErr};
 ghost use Rattle.sqlite.specs.State.{HasCleanDisk, Survives};
 ghost use Rattle.sqlite.specs.Held.{state};
 ghost use Rattle.cb_commit.specs.Stores.{IsOf};
-ghost use Rattle.cb_sql.specs.Statements.{MakesAll, batch_statements};
-ghost use Rattle.cb_sql.specs.Inside.{IsSame, IsSettled};
+ghost use Rattle.cb_shelf.specs.Statements.{MakesAll, batch_statements};
+ghost use Rattle.cb_shelf.specs.Inside.{IsSame, IsSettled};
 ghost use Rattle.cb_shelf.specs.LifeRows.{life_row};
 ghost use Rattle.cb_shelf.specs.Living.{Begun, EndsLives, Follows, MadeBy, life_statements};
 ghost use Rattle.cb_shelf.specs.Living.{raise_end, raised};
 ghost use Rattle.cb_shelf.specs.Opening.{LaysOut, Opened, Misshapen};
 ghost use Rattle.cb_shelf.specs.Reading.{Holds, Misfits};
 ghost use Rattle.cb_shelf.specs.declared.reading.Generation.TheVariants.{Newer};
-ghost use Rattle.cb_sql.specs.Writing.{Fits, Wrote};
+ghost use Rattle.cb_shelf.specs.Writing.{Fits, Wrote};
 
 use crate::life::{Life, begin, raise};
 use crate::opening::open_tables;
 use crate::reading::read_back;
 use crate::writing::{Written, write_batch};
+use crate::{ShelfFault, fits};
 use cb_commit::{Batch, Store};
 use cb_page::{Incarnation, Limits};
-use cb_sql::{ShelfFault, fits};
 use sqlite::{Alter, Connection};
 use std::alloc::Global;
 

@@ -2,13 +2,13 @@
 ghost use Rattle.std.specs.Prelude.{◌≡◌, ◌≢◌, Err, IfOk, OnOk, OnErr};
 ghost use Rattle.sqlite.specs.State.{HasCleanDisk, Survives};
 ghost use Rattle.sqlite.specs.Held.{state};
-ghost use Rattle.cb_sql.specs.Statements.{MakesAll, batch_statements};
-ghost use Rattle.cb_sql.specs.Inside.{Inside, IsSame, IsSettled};
-ghost use Rattle.cb_sql.specs.Writing.{Wrote};
+ghost use Rattle.cb_shelf.specs.Statements.{MakesAll, batch_statements};
+ghost use Rattle.cb_shelf.specs.Inside.{Inside, IsSame, IsSettled};
+ghost use Rattle.cb_shelf.specs.Writing.{Wrote};
 
+use crate::{ShelfFault, put_mark, put_pages};
 use cb_commit::Batch;
 use cb_page::CommitNo;
-use cb_sql::{ShelfFault, put_mark, put_pages};
 use sqlite::{Alter, Connection, Transaction};
 use std::marker::Model;
 

@@ -1,6 +1,6 @@
 -- What a commit is answered, by why it is refused or that it is allowed.
 use Rattle.std.proofs.Common.{◌≡◌, ◌↔◌, ◌≤◌, ℕ, Bool, List, Result, Err, inl, inr, ap}
-use Rattle.cb_frame_types.specs.declared.frame.Frame.{Frame}
+use Rattle.cb_frame.specs.declared.frame.Frame.{Frame}
 use Rattle.cb_hands.specs.Hands.{HandState}
 use Rattle.cb_station.specs.Commits.{IsLive, IsOwnCommit, IsPermitted, RefusesCommit}
 use Rattle.cb_station.specs.Stations.{StationState, server_of}

@@ -2,10 +2,10 @@
 use Rattle.std.proofs.Common.{◌≡◌, true≢false, ◌<◌, ◌&&◌, ℕ, Bool, true, false, nat_lt, if◌then◌else◌, length, refl, sym, ◌∙◌, ap, subst, arith, List, Option, Some, None, IsSome, inl, inr, ◌⊎◌}
 use Rattle.std.proofs.lemmas.Bool.Decides.{nat_tests}
 use Rattle.std.proofs.lemmas.List.{get_or-set_same}
-use Rattle.cb_frame_types.specs.declared.frame.Body.{Body}
-use Rattle.cb_frame_types.specs.declared.frame.Body.TheVariants as body
-use Rattle.cb_frame_types.specs.declared.frame.Frame.{Frame}
-use Rattle.cb_frame_types.specs.declared.frame.ShortBody.TheVariants as short
+use Rattle.cb_frame.specs.declared.frame.Body.{Body}
+use Rattle.cb_frame.specs.declared.frame.Body.TheVariants as body
+use Rattle.cb_frame.specs.declared.frame.Frame.{Frame}
+use Rattle.cb_frame.specs.declared.frame.ShortBody.TheVariants as short
 use Rattle.cb_hands.specs.Hands.{HandState, held_at, with_copy}
 use Rattle.cb_hands.specs.Joined.{IsHeld}
 use Rattle.cb_hands.specs.declared.grant.Held.{Held}

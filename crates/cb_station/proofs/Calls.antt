@@ -7,11 +7,11 @@ use Rattle.cb_hands.proofs.Agreeing.{hands_meet}
 use Rattle.cb_hands.specs.Agreement.{Meet}
 use Rattle.cb_commit.specs.History.{CommitsState}
 use Rattle.cb_commit.specs.Stores.{StoreState}
-use Rattle.cb_frame_types.specs.declared.frame.Body.{Body}
-use Rattle.cb_frame_types.specs.declared.frame.Body.TheVariants as body
-use Rattle.cb_frame_types.specs.declared.frame.Frame.{Frame}
-use Rattle.cb_frame_types.specs.declared.frame.ShortBody.TheVariants as short
-use Rattle.cb_frame_types.specs.declared.writes.Write.{Write}
+use Rattle.cb_frame.specs.declared.frame.Body.{Body}
+use Rattle.cb_frame.specs.declared.frame.Body.TheVariants as body
+use Rattle.cb_frame.specs.declared.frame.Frame.{Frame}
+use Rattle.cb_frame.specs.declared.frame.ShortBody.TheVariants as short
+use Rattle.cb_frame.specs.declared.writes.Write.{Write}
 use Rattle.cb_hands.specs.Hands.{HandState, empty_hand, held_at}
 use Rattle.cb_hands.specs.declared.grant.Held.{Held}
 use Rattle.cb_hands.proofs.Noting.{new_server_is_noted}

@@ -5,11 +5,11 @@ use Rattle.std.proofs.Common.{subst, arith, Option, Some, None, IsSome, inl, inr
 use Rattle.std.proofs.lemmas.Bool.{cases_eq}
 use Rattle.std.proofs.lemmas.List.{get_or-set_other, get_or-set_same}
 use Rattle.cb_commit.specs.Stores.{StoreState}
-use Rattle.cb_frame_types.specs.declared.frame.Body.{Body}
-use Rattle.cb_frame_types.specs.declared.frame.Body.TheVariants as body
-use Rattle.cb_frame_types.specs.declared.frame.Frame.{Frame}
-use Rattle.cb_frame_types.specs.declared.frame.ShortBody.TheVariants as short
-use Rattle.cb_frame_types.specs.declared.writes.Write.{Write}
+use Rattle.cb_frame.specs.declared.frame.Body.{Body}
+use Rattle.cb_frame.specs.declared.frame.Body.TheVariants as body
+use Rattle.cb_frame.specs.declared.frame.Frame.{Frame}
+use Rattle.cb_frame.specs.declared.frame.ShortBody.TheVariants as short
+use Rattle.cb_frame.specs.declared.writes.Write.{Write}
 use Rattle.cb_hands.specs.Hands.{HandState, empty_hand, held_at, permitted, with_copy}
 use Rattle.cb_hands.specs.Hands.{without_permissions}
 use Rattle.cb_hands.specs.Joined.{Follow, IsHeld, stored_at}

@@ -10,7 +10,7 @@ use Rattle.cb_hands.specs.Agreement.{Agrees, HasRows, IsRow}
 use Rattle.cb_hands.specs.OwnHand.{all_restamped, pages_written}
 use Rattle.cb_hands.specs.OwnStays.{KeepsOwn}
 use Rattle.cb_commit.specs.Stores.{StoreState}
-use Rattle.cb_frame_types.specs.declared.writes.Write.{Write}
+use Rattle.cb_frame.specs.declared.writes.Write.{Write}
 use Rattle.cb_hands.specs.Hands.{HandState, IsHand, at_version, empty_hand, held_at, permitted, restamped, with_copy, without_copy, without_permissions}
 use Rattle.cb_hands.specs.declared.grant.Held.{Held}
 use Rattle.cb_server_state.specs.States.{opening_of}

@@ -6,8 +6,8 @@ use Rattle.cb_hands.specs.Running.{noted, noted_commit}
 use Rattle.cb_hands.specs.declared.entry.Entry.{Entry}
 use Rattle.cb_mailboxes.specs.Dispatching as dispatching
 use Rattle.cb_mailboxes.specs.Dispatching.{DispatcherState}
-use Rattle.cb_past.specs.Past as past
-use Rattle.cb_past.specs.Past.{PastState}
+use Rattle.cb_commit.specs.Past as past
+use Rattle.cb_commit.specs.Past.{PastState}
 use Rattle.cb_server.proofs.Serving.{arises_forgotten}
 use Rattle.cb_server.specs.ServerValue.{commits_of}
 use Rattle.cb_server_state.specs.Commits.{applied_commit}

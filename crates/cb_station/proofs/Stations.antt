@@ -5,8 +5,8 @@ use Rattle.std.proofs.lemmas.Bool.Decides.{nat_tests}
 use Rattle.std.proofs.lemmas.List.{get_or_past, reverse-append}
 use Rattle.cb_hands.specs.Agreement.{HasRows}
 use Rattle.cb_commit.specs.Stores.{StoreState}
-use Rattle.cb_frame_types.specs.Grammar.{page_of}
-use Rattle.cb_frame_types.specs.declared.writes.Write.{Write}
+use Rattle.cb_frame.specs.Grammar.{page_of}
+use Rattle.cb_frame.specs.declared.writes.Write.{Write}
 use Rattle.cb_hands.specs.Hands.{HandState, held_at}
 use Rattle.cb_hands.specs.declared.grant.Held.{Held}
 use Rattle.cb_hands.proofs.Noting.{no_other_changes, noted_commit_follows}

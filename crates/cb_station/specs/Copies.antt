@@ -1,6 +1,6 @@
 -- What a collected copy is.
 use Rattle.std.specs.Prelude.{◌≡◌, ℕ, Some, None}
-use Rattle.cb_frame_types.specs.declared.frame.Frame.{Frame}
+use Rattle.cb_frame.specs.declared.frame.Frame.{Frame}
 use Rattle.cb_hands.specs.Hands.{HandState, held_at}
 use Rattle.cb_hands.specs.declared.grant.Held.{Held}
 use Rattle.cb_laws.specs.RowVersions.{IsAsStored}

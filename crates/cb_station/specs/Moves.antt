@@ -3,13 +3,13 @@ use Rattle.std.specs.Prelude.{◌≡◌, ◌==◌, ◌&&◌, ◌++◌, ℕ, Bool
 use Rattle.std.specs.Prelude.{◌∷◌, if◌then◌else◌, length, map, Option, Some, None, zero, suc}
 use Rattle.std.specs.List.{AllByRecursion}
 use Rattle.cb_hands.specs.OwnHand.{all_restamped, pages_written}
-use Rattle.cb_frame_types.specs.Grammar.{Fits, page_of}
-use Rattle.cb_frame_types.specs.declared.frame.Body.{Body}
-use Rattle.cb_frame_types.specs.declared.frame.Body.TheVariants as body
-use Rattle.cb_frame_types.specs.declared.frame.Frame.{Frame}
-use Rattle.cb_frame_types.specs.declared.frame.ShortBody.{ShortBody}
-use Rattle.cb_frame_types.specs.declared.frame.ShortBody.TheVariants as short
-use Rattle.cb_frame_types.specs.declared.writes.Write.{Write}
+use Rattle.cb_frame.specs.Grammar.{Fits, page_of}
+use Rattle.cb_frame.specs.declared.frame.Body.{Body}
+use Rattle.cb_frame.specs.declared.frame.Body.TheVariants as body
+use Rattle.cb_frame.specs.declared.frame.Frame.{Frame}
+use Rattle.cb_frame.specs.declared.frame.ShortBody.{ShortBody}
+use Rattle.cb_frame.specs.declared.frame.ShortBody.TheVariants as short
+use Rattle.cb_frame.specs.declared.writes.Write.{Write}
 use Rattle.cb_hands.specs.Hands.{HandState, held_at, permitted, with_copy}
 use Rattle.cb_hands.specs.Hands.{without_copy}
 use Rattle.cb_hands.specs.Hands.{without_permissions}

@@ -4,7 +4,7 @@ use Rattle.std.specs.Prelude.{IsSome}
 use Rattle.cb_hands.specs.Agreement.{Agrees}
 use Rattle.cb_mailboxes.specs.Dispatching as dispatching
 use Rattle.cb_mailboxes.specs.Dispatching.{DispatcherState}
-use Rattle.cb_frame_types.specs.declared.frame.Frame.{Frame}
+use Rattle.cb_frame.specs.declared.frame.Frame.{Frame}
 use Rattle.cb_hands.specs.Hands.{HandState, IsHand}
 use Rattle.cb_hands.specs.Running.{IsLegal, Replays}
 use Rattle.cb_hands.specs.declared.entry.Entry.{Entry}

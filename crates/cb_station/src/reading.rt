@@ -1,6 +1,6 @@
 //! What a commit reads and writes, beside what its hand shows.
 ghost use Rattle.std.specs.Prelude.{◌≡◌, ◌↔◌, ◌++◌, length, map, IfOk, IsTrue, OnOk};
-ghost use Rattle.cb_frame_types.specs.Grammar.{page_of};
+ghost use Rattle.cb_frame.specs.Grammar.{page_of};
 ghost use Rattle.cb_station.specs.Moves.{HoldsAll, MayWrite, MayWriteAll, read_of};
 ghost use Rattle.cb_station.specs.Moves.{reads_below};
 

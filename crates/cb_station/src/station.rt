@@ -29,12 +29,11 @@ use crate::office_fault::OfficeFault;
 pub use crate::station::admitting::{EndedTry, Ticket};
 pub(crate) use crate::station::flags::Expected;
 use crate::station::flags::Flags;
-use cb_commit::{Batch, Store};
+use cb_commit::{Batch, Past, Store};
 use cb_frame::Frame;
 use cb_hands::{Entry, Hand, JoinedHands};
 use cb_mailboxes::Dispatcher;
 use cb_page::{ClientNo, ClientSet, CommitNo, Incarnation, Limits};
-use cb_past::Past;
 use std::alloc::{AllocError, Global};
 use std::marker::Model;
 

@@ -6,7 +6,7 @@ use Rattle.std.specs.Prelude.{⊤}
 use Rattle.std.proofs.lemmas.Bool.{cases_eq}
 use Rattle.cb_client.specs.CallAnswers.{SaysCommit}
 use Rattle.cb_client_core.specs.ClientState.{ClientState, IsClient, client_of}
-use Rattle.cb_frame_types.specs.declared.frame.Frame.{Frame}
+use Rattle.cb_frame.specs.declared.frame.Frame.{Frame}
 use Rattle.cb_outbox.specs.Messages.{message_of}
 use Rattle.cb_page.specs.Bounds.{Bounds}
 use Rattle.cb_protocol.proofs.Cases.{call_accepted, fault_of_again, said_append}

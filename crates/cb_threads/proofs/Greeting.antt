@@ -4,7 +4,7 @@ use Rattle.std.proofs.Common.{false, if◌then◌else◌, List, [], ◌∷◌, O
 use Rattle.std.proofs.Common.{◌∙◌, ap, subst, arith, inl, slice_set}
 use Rattle.std.proofs.lemmas.List.{get_or-set_other}
 use Rattle.cb_client_core.proofs.Reaching.{starts}
-use Rattle.cb_frame_types.specs.declared.frame.Frame.{Frame}
+use Rattle.cb_frame.specs.declared.frame.Frame.{Frame}
 use Rattle.cb_hands.specs.Hands.{HandState}
 use Rattle.cb_hands.specs.Joined.{IsHeld, stored_at}
 use Rattle.cb_mailboxes.specs.Dispatching.{emptied}

@@ -1,6 +1,6 @@
 -- A client begins another incarnation.
 use Rattle.std.proofs.Common.{◌≡◌, ◌≢◌, ◌<◌, ◌≤◌, ◌-◌, ℕ, sym, ◌∙◌, ap, subst, arith, inl, inr}
-use Rattle.cb_frame_types.specs.declared.frame.Frame.{Frame}
+use Rattle.cb_frame.specs.declared.frame.Frame.{Frame}
 use Rattle.cb_hands.specs.Hands.{HandState}
 use Rattle.cb_mailboxes.specs.Dispatching as dispatching
 use Rattle.cb_mailboxes.specs.Dispatching.{emptied}

@@ -3,8 +3,8 @@ use Rattle.std.proofs.Common.{◌≡◌, ◌≢◌, ◌<◌, ◌≤◌, ◌+◌,
 use Rattle.std.proofs.Common.{sym, ◌∙◌, ap, subst, arith, inl, inr}
 use Rattle.std.proofs.Common.{◌⊎◌, Some}
 use Rattle.std.proofs.lemmas.Bool.{cases_eq}
-use Rattle.cb_lives.proofs.HellosAnswered.{hello_taken}
-use Rattle.cb_lives.proofs.LifeBegins.{greeted, greets_alone, none_greeted}
+use Rattle.cb_laws.proofs.HellosAnswered.{hello_taken}
+use Rattle.cb_laws.proofs.LifeBegins.{greeted, greets_alone, none_greeted}
 use Rattle.cb_protocol.specs.Answers.{Taken}
 use Rattle.cb_protocol.specs.Basics.{IsIn, Limits, max_number}
 use Rattle.cb_protocol.specs.Client.{new_client}

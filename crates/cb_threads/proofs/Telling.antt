@@ -1,6 +1,6 @@
 -- Commits reach the disk or are forgotten, and threads tell each other: no client moves.
 use Rattle.std.proofs.Common.{◌≡◌, ℕ, List, Option, refl, sym, ◌∙◌, ap, subst, inl, inr}
-use Rattle.cb_frame_types.specs.declared.frame.Frame.{Frame}
+use Rattle.cb_frame.specs.declared.frame.Frame.{Frame}
 use Rattle.cb_hands.specs.Hands.{HandState}
 use Rattle.cb_hands.specs.Joined.{stored_at}
 use Rattle.cb_mailboxes.specs.Dispatching as dispatching

@@ -8,7 +8,7 @@ use Rattle.std.proofs.lemmas.Bool.{cases_eq}
 use Rattle.std.proofs.lemmas.Bool.Decides.{nat_tests}
 use Rattle.cb_client.specs.FramesTaken.{TakesFrame}
 use Rattle.cb_client_core.specs.ClientState.{ClientState, client_of}
-use Rattle.cb_frame_types.specs.declared.frame.Frame.{Frame}
+use Rattle.cb_frame.specs.declared.frame.Frame.{Frame}
 use Rattle.cb_hands.specs.Hands.{HandState}
 use Rattle.cb_hands.specs.Joined.{Follow, IsHeld, stored_at}
 use Rattle.cb_mailboxes.specs.Dispatching as dispatching

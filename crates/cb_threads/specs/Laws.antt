@@ -1,7 +1,7 @@
 -- What holds of a running program, whatever its threads do.
 use Rattle.std.specs.Prelude.{◌≡◌, ◌<◌, ℕ, false, List, Some}
 use Rattle.cb_commit.specs.Stores.{StoreState}
-use Rattle.cb_frame_types.specs.declared.frame.Frame.{Frame}
+use Rattle.cb_frame.specs.declared.frame.Frame.{Frame}
 use Rattle.cb_laws.specs.RowVersions.{HasRow, IsAsStored}
 use Rattle.cb_outbox.specs.Messages.{body_of}
 use Rattle.cb_page.specs.Bounds.{Bounds}

@@ -2,7 +2,7 @@
 use Rattle.std.specs.Prelude.{◌≡◌, ℕ, true, false, List, [], ◌∷◌, Some, ⊤}
 use Rattle.cb_client_core.specs.ClientState.{client_of}
 use Rattle.cb_commit.specs.Stores.{StoreState}
-use Rattle.cb_frame_types.specs.declared.frame.Frame.{Frame}
+use Rattle.cb_frame.specs.declared.frame.Frame.{Frame}
 use Rattle.cb_hands.specs.Joined.{IsHeld}
 use Rattle.cb_outbox.specs.Messages.{body_of, message_of}
 use Rattle.cb_page.specs.Bounds.{Bounds}

@@ -8,10 +8,10 @@ use Rattle.cb_protocol.specs.Transcript.{incarnation_after, incarnation_at, tran
 use Rattle.cb_protocol.specs.World.{ClientCalls, Event, Restart}
 use Rattle.cb_protocol.specs.World.{TranscriptEntry as ToldEntry}
 use Rattle.cb_transcript.specs.ProtocolEvents.{call_of, entry_of, event_of, transcript_of, word_of}
-use Rattle.cb_event.specs.declared.event.Call.{Call}
-use Rattle.cb_event.specs.declared.event.Call.TheVariants as call
-use Rattle.cb_event.specs.declared.event.Event.{Event as EventData}
-use Rattle.cb_event.specs.declared.event.Event.TheVariants as event
+use Rattle.cb_transcript.specs.declared.event.Call.{Call}
+use Rattle.cb_transcript.specs.declared.event.Call.TheVariants as call
+use Rattle.cb_transcript.specs.declared.event.Event.{Event as EventData}
+use Rattle.cb_transcript.specs.declared.event.Event.TheVariants as event
 use Rattle.cb_protocol.specs.Serial.{PerformedOperation}
 use Rattle.cb_protocol.specs.Serial as serial
 use Rattle.cb_protocol.specs.Transcript as protocol

@@ -4,6 +4,9 @@
 -- Pages: pages within limits, and equal bytes.
 -- Replays: what a replay shows of each page, and what a whole one says.
 -- SerialChecks: what the serial check answers.
+mod LivesLemmas
+mod PiecesLemmas
+mod TextLemmas
 pub mod Followed
 pub mod Listed
 pub mod Pages

@@ -1,3 +1,13 @@
+pub mod Commands
+pub mod Events
+pub mod LivesEvents
+pub mod Pieces
+pub mod FaultTexts
+pub mod Lines
+pub mod ScheduleText
+pub mod LivesText
+pub mod Drawn
+pub mod RandomWords
 pub mod Answers
 pub mod LivesTranscripts
 pub mod Operations

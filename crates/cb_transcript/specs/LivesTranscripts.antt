@@ -1,8 +1,8 @@
 -- The transcript of a world over all lives of its server, and what it is in the protocol.
 use Rattle.std.specs.Prelude.{List, [], ◌∷◌}
 use Rattle.cb_commit.specs.Stores.{StoreState}
-use Rattle.cb_event.specs.declared.lives_event.LivesEvent.{LivesEvent}
-use Rattle.cb_event.specs.declared.lives_event.LivesEvent.TheVariants as event
+use Rattle.cb_transcript.specs.declared.lives_event.LivesEvent.{LivesEvent}
+use Rattle.cb_transcript.specs.declared.lives_event.LivesEvent.TheVariants as event
 use Rattle.cb_protocol.specs.LivesWorld as protocol
 use Rattle.cb_transcript.specs.ProtocolEvents.{event_of}
 use Rattle.cb_transcript.specs.Transcripts.{IsSerialOnOpening, TranscriptState}

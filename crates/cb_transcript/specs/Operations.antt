@@ -4,10 +4,10 @@ use Rattle.std.specs.Prelude.{slice_index_or, Bool, nat_eq, ◌&&◌, Option, So
 use Rattle.std.specs.Prelude.{option_map, Vec}
 use Rattle.std.specs.List.{All, filter_map}
 use Rattle.std.specs.HashMap.{HashMap, get}
-use Rattle.cb_event.specs.declared.event.Call.{Call}
-use Rattle.cb_event.specs.declared.event.Call.TheVariants as call
-use Rattle.cb_event.specs.declared.event.Event.{Event}
-use Rattle.cb_event.specs.declared.event.Event.TheVariants as event
+use Rattle.cb_transcript.specs.declared.event.Call.{Call}
+use Rattle.cb_transcript.specs.declared.event.Call.TheVariants as call
+use Rattle.cb_transcript.specs.declared.event.Event.{Event}
+use Rattle.cb_transcript.specs.declared.event.Event.TheVariants as event
 use Rattle.cb_protocol.specs.Serial.{PerformedOperation, transaction_operations}
 use Rattle.cb_protocol.specs.Serial as serial
 use Rattle.cb_protocol.specs.Transcript.{add_operation, incarnation_at, transaction_at}

@@ -1,9 +1,9 @@
 -- What an event and its answer are in the protocol.
 use Rattle.std.specs.Prelude.{List, map, reverse}
-use Rattle.cb_event.specs.declared.event.Call.{Call}
-use Rattle.cb_event.specs.declared.event.Call.TheVariants as call
-use Rattle.cb_event.specs.declared.event.Event.{Event}
-use Rattle.cb_event.specs.declared.event.Event.TheVariants as event
+use Rattle.cb_transcript.specs.declared.event.Call.{Call}
+use Rattle.cb_transcript.specs.declared.event.Call.TheVariants as call
+use Rattle.cb_transcript.specs.declared.event.Event.{Event}
+use Rattle.cb_transcript.specs.declared.event.Event.TheVariants as event
 use Rattle.cb_transcript.specs.declared.answer.AnswerWord.{AnswerWord}
 use Rattle.cb_transcript.specs.declared.answer.AnswerWord.TheVariants as word
 use Rattle.cb_transcript.specs.declared.answer.SentPacket.{SentPacket}

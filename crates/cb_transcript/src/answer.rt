@@ -1,8 +1,8 @@
 ghost use Rattle.std.specs.Prelude.{◌≡◌, ◌<◌, List, [], ◌∷◌, length, Some, IfOk, IfSome, OnErr};
 ghost use Rattle.cb_transcript.specs.Answers.{IsBytes, TakesMemory};
 
+use crate::Event;
 use crate::refusal::Refusal;
-use cb_event::Event;
 use cb_frame::Kind;
 use cb_page::{ClientNo, CommitNo, Page};
 use std::alloc::{AllocError, Global};

@@ -5,7 +5,7 @@ ghost use Rattle.cb_transcript.specs.ProtocolEvents.{entry_of};
 ghost use Rattle.cb_protocol.specs.World.{TranscriptEntry as ToldEntry};
 
 use crate::answer::{AnswerWord, TranscriptEntry};
-use cb_event::{Call, Event};
+use crate::{Call, Event};
 
 /// A client's number is below this.
 pub(crate) const CLIENT_NUMBERS: usize = 32;

@@ -3,7 +3,7 @@ ghost use Rattle.std.specs.Prelude.{◌≡◌, is_some, option_map};
 ghost use Rattle.cb_transcript.specs.Operations.{call_operation, operation_in};
 
 use crate::answer::{AnswerWord, TranscriptEntry};
-use cb_event::{Call, Event};
+use crate::{Call, Event};
 use cb_page::ClientNo;
 
 /// The client whose operation the event is, if it is one: a read that was answered with bytes, or a

@@ -6,8 +6,8 @@ ghost use Rattle.cb_transcript.specs.Operations.{AreDone, call_operation, done_i
 ghost use Rattle.cb_transcript.specs.Replays.{AnswersAs, HasEveryPage, IsPlayedTo, shown};
 
 use crate::answer::{AnswerWord, TranscriptEntry};
+use crate::{Call, Event};
 use cb_commit::Store;
-use cb_event::{Call, Event};
 use cb_page::PageNo;
 use std::alloc::{AllocError, Global};
 

@@ -4,9 +4,9 @@ ghost use Rattle.std.specs.Prelude.{IfOk, OnOk, OnErr};
 ghost use Rattle.std.specs.Vec.{vec_capacity};
 ghost use Rattle.cb_transcript.specs.Transcripts.{committed_name};
 
+use crate::Event;
 use crate::answer::{Answer, TranscriptEntry};
 use cb_commit::{Commit, Store};
-use cb_event::Event;
 use cb_page::{ClientNo, Incarnation, TxnNo};
 use std::alloc::{AllocError, Global};
 use std::marker::Model;

@@ -3,7 +3,7 @@ use Rattle.std.proofs.Common.{◌≡◌, inl, inr, true, List, [], ◌∷◌, Re
 use Rattle.std.specs.Prelude.{⊤}
 use Rattle.cb_client.specs.ByTable.{Calls, limits_at, messages_from, over}
 use Rattle.cb_client_core.specs.ClientState.{ClientState, client_of}
-use Rattle.cb_frame_types.specs.declared.frame.Frame.{Frame}
+use Rattle.cb_frame.specs.declared.frame.Frame.{Frame}
 use Rattle.cb_outbox.specs.Messages.{messages_of}
 use Rattle.cb_protocol.proofs.Cases.{call_accepted}
 use Rattle.cb_protocol.specs.Answers.{AnsweredOk}

@@ -1,6 +1,6 @@
 -- What a station answers to a commit whose frame is handed over.
 use Rattle.std.proofs.Common.{◌≡◌, ◌⊎◌, ◌↔◌, ◌++◌, ◌∷◌, ◌+◌, ◌≤◌, ℕ, Bool, true, List, [], Result, Ok, Err, IfErr, IfOk, OnErr, OnOk}
-use Rattle.cb_frame_types.specs.declared.frame.Frame.{Frame}
+use Rattle.cb_frame.specs.declared.frame.Frame.{Frame}
 use Rattle.cb_hands.specs.Hands.{HandState}
 use Rattle.cb_hands.specs.Joined.{Follow}
 use Rattle.cb_hands.specs.declared.entry.Entry.{Entry}

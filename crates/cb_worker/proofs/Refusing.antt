@@ -5,7 +5,7 @@ use Rattle.cb_client.specs.CallAnswers.{AnswersRead, after_read, page_read}
 use Rattle.cb_client.specs.declared.answers.ReadAnswer.TheVariants as read
 use Rattle.std.specs.Option.{is_some}
 use Rattle.cb_cache.specs.CacheState.{content_at}
-use Rattle.cb_frame_types.specs.declared.frame.Frame.{Frame}
+use Rattle.cb_frame.specs.declared.frame.Frame.{Frame}
 use Rattle.cb_hands.specs.Hands.{HandState}
 use Rattle.cb_station.specs.Stations.{StationState}
 use Rattle.cb_station.specs.declared.office_fault.OfficeFault.{OfficeFault}

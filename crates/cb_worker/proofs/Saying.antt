@@ -10,7 +10,7 @@ use Rattle.cb_client_core.specs.ClientState.{ClientState, IsClient, client_of, s
 use Rattle.cb_client_core.specs.declared.stage.Stage.{Stage}
 use Rattle.cb_client_core.specs.declared.stage.Stage.TheVariants as stages
 use Rattle.cb_cache.specs.CacheState.{limits_of}
-use Rattle.cb_frame_types.specs.declared.frame.Frame.{Frame}
+use Rattle.cb_frame.specs.declared.frame.Frame.{Frame}
 use Rattle.cb_outbox.specs.Messages.{message_of}
 use Rattle.cb_protocol.proofs.Cases.{call_accepted, call_refused}
 use Rattle.cb_protocol.specs.Answers as table

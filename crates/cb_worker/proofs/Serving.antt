@@ -1,7 +1,7 @@
 -- Turns, one after another.
 use Rattle.std.proofs.Common.{◌≡◌, ◌≢◌, inl, inr, Bool, true, false, List, [], ◌∷◌, Option, Some, None, Result, Ok, Err, refl, ap, ◌∙◌, subst}
 use Rattle.std.specs.Prelude.{⊤, ◌⊎◌}
-use Rattle.cb_frame_types.specs.declared.frame.Frame.{Frame}
+use Rattle.cb_frame.specs.declared.frame.Frame.{Frame}
 use Rattle.cb_station.specs.Stations.{IsStation, StationState}
 use Rattle.cb_station.specs.declared.office_fault.OfficeFault.{OfficeFault}
 use Rattle.cb_worker.proofs.Refusing.{no_halt, turn_fault}

@@ -13,7 +13,7 @@ use Rattle.cb_client.specs.declared.answers.WantAnswer.TheVariants as want
 use Rattle.cb_client.specs.declared.client_fault.ClientFault.{ClientFault}
 use Rattle.cb_client_core.specs.ClientState.{ClientState, IsClient, client_of, stage_of}
 use Rattle.cb_client_core.specs.declared.stage.Stage.TheVariants as stages
-use Rattle.cb_frame_types.specs.declared.frame.Frame.{Frame}
+use Rattle.cb_frame.specs.declared.frame.Frame.{Frame}
 use Rattle.cb_outbox.specs.Messages.{body_of, messages_of}
 use Rattle.cb_page.specs.Flags.{has}
 use Rattle.cb_protocol.proofs.Cases.{call_refused}

@@ -4,10 +4,10 @@ use Rattle.std.proofs.lemmas.Bool.{cases_lt}
 use Rattle.cb_client.specs.ByTable.{limits_at}
 use Rattle.cb_client.specs.CallAnswers.{SaysCommit}
 use Rattle.cb_client_core.specs.ClientState.{ClientState, IsClient, client_of}
-use Rattle.cb_frame_types.specs.declared.frame.Body.{Body}
-use Rattle.cb_frame_types.specs.declared.frame.Body.TheVariants as body
-use Rattle.cb_frame_types.specs.declared.frame.Frame.{Frame}
-use Rattle.cb_frame_types.specs.declared.frame.ShortBody.TheVariants as short
+use Rattle.cb_frame.specs.declared.frame.Body.{Body}
+use Rattle.cb_frame.specs.declared.frame.Body.TheVariants as body
+use Rattle.cb_frame.specs.declared.frame.Frame.{Frame}
+use Rattle.cb_frame.specs.declared.frame.ShortBody.TheVariants as short
 use Rattle.cb_outbox.specs.Messages.{body_of, page_writes}
 use Rattle.cb_protocol.proofs.Cases.{call_accepted, call_refused}
 use Rattle.cb_protocol.proofs.ClientInvariant.{ClientKeeps, tidy}

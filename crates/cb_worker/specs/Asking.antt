@@ -2,9 +2,9 @@
 use Rattle.std.specs.Prelude.{◌≡◌, ◌⊎◌, ℕ, [], ◌∷◌}
 use Rattle.cb_client.specs.ByTable.{Calls, as_before}
 use Rattle.cb_client.specs.CallAnswers.{page_asked, read_ask}
-use Rattle.cb_frame_types.specs.declared.frame.Body.TheVariants.{Short}
-use Rattle.cb_frame_types.specs.declared.frame.Frame.{Frame}
-use Rattle.cb_frame_types.specs.declared.frame.ShortFrame.{ShortFrame}
+use Rattle.cb_frame.specs.declared.frame.Body.TheVariants.{Short}
+use Rattle.cb_frame.specs.declared.frame.Frame.{Frame}
+use Rattle.cb_frame.specs.declared.frame.ShortFrame.{ShortFrame}
 use Rattle.cb_outbox.specs.Messages.{messages_of}
 use Rattle.cb_protocol.specs.Answers as table
 use Rattle.cb_protocol.specs.ClientCalls.{CallWant}

@@ -5,7 +5,7 @@ use Rattle.cb_client.specs.CallAnswers.{Finishes, SaysCommit}
 use Rattle.cb_client.specs.declared.client_fault.ClientFault.{ClientFault}
 use Rattle.cb_client.specs.declared.client_fault.ClientFault.TheVariants as client
 use Rattle.cb_client_core.specs.ClientState.{ClientState, client_of}
-use Rattle.cb_frame_types.specs.declared.frame.Frame.{Frame}
+use Rattle.cb_frame.specs.declared.frame.Frame.{Frame}
 use Rattle.cb_station.specs.Commits.{writes_of}
 use Rattle.cb_station.specs.Stations.{StationState}
 use Rattle.cb_station.specs.declared.office_fault.OfficeFault.{OfficeFault}

@@ -20,7 +20,7 @@ pub(crate) struct Said {
 
 impl Model for Said {
     ghost use Rattle.std.specs.Prelude.{List, ◌++◌, option_to_list, reverse};
-    ghost use Rattle.cb_frame_types.specs.declared.frame.Frame.{Frame};
+    ghost use Rattle.cb_frame.specs.declared.frame.Frame.{Frame};
 
     ghost Value = { List Frame };
 

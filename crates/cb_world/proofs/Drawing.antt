@@ -2,9 +2,9 @@
 use Rattle.std.proofs.Common.{◌≡◌, ℕ, List, [], ◌∷◌, ◌++◌, length, Result, Ok, Err, append_assoc, subst}
 use Rattle.std.specs.Prelude.{IfOk}
 use Rattle.std.proofs.lemmas.List.{append-nil}
-use Rattle.cb_event.specs.Drawn.{DrawingState, starts}
+use Rattle.cb_transcript.specs.Drawn.{DrawingState, starts}
 use Rattle.cb_world.specs.Draws.{AreDrawn, AreNext, IsNext, IsOpening}
-use Rattle.cb_event.specs.declared.event.Event.{Event}
+use Rattle.cb_transcript.specs.declared.event.Event.{Event}
 use Rattle.cb_page.specs.Bounds.{Bounds}
 use Rattle.cb_world.specs.WorldState.{WorldState}
 

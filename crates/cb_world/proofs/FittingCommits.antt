@@ -6,8 +6,8 @@ use Rattle.std.proofs.lemmas.List.Elements.{All-take}
 use Rattle.cb_commit.specs.History.{AreCommits, WritesInto}
 use Rattle.cb_commit.specs.Stores.{IsOf, StoreState}
 use Rattle.cb_commit.specs.declared.commit.Commit.{Commit}
-use Rattle.cb_frame_types.specs.declared.writes.Write.{Write}
-use Rattle.cb_lives.proofs.CommitsAdded.{steps_add}
+use Rattle.cb_frame.specs.declared.writes.Write.{Write}
+use Rattle.cb_laws.proofs.CommitsAdded.{steps_add}
 use Rattle.cb_outbox.specs.Messages.{page_writes}
 use Rattle.cb_page.specs.Bounds.{Bounds}
 use Rattle.cb_protocol.proofs.LifeImage.{in_append, in_left, in_right}

@@ -1,4 +1,7 @@
 -- What is proved where.
+-- Replying: what a client replies, by the table of calls.
+-- Sends: what is sent stays the spelling of frames.
+-- ClientWorlds: the clients of a world as one of them changes.
 -- Packing: frames that are sent, and the messages that they carry.
 -- Nets: what each kind of event makes of the net.
 -- Worlds: a world of the protocol, event by event.
@@ -21,7 +24,7 @@
 -- A restart takes the server's first commits over the store with which its life began
 -- (`store_on_disk`, `next_life`). That they fit that store, the server has by how it arose: each
 -- was asked for by a Commit that fits (`commits_fit`, `FittingCommits`, by `steps_add` of
--- `cb_lives`). Their bytes and versions are the protocol's (`bytes_left`, `versions_left`,
+-- `cb_laws`). Their bytes and versions are the protocol's (`bytes_left`, `versions_left`,
 -- `DiskStores`), and those up to a number are the first ones, since they are numbered one by one
 -- (`first_up_to`). So the store is the protocol's `store_on_disk` (`disk_opening`), the server is
 -- `server_of_life` by `resume`, and the names that stay are those of the commits that count
@@ -32,6 +35,9 @@
 -- Refused edits: `restart_keeps_the_rows` by `restart_server` of `Net`, which is to hand over the
 -- server; `lost_commit_kept` by `tell_life` (`ok`: so many of the names stay);
 -- `restart_at_the_old_floor` by `is_new_floor` (`IsNewFloorOf`).
+pub mod Replying
+pub mod Sends
+pub mod ClientWorlds
 pub mod Packing
 pub mod Nets
 pub mod Worlds

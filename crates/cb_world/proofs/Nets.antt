@@ -6,16 +6,16 @@ use Rattle.std.proofs.lemmas.Bool.Decides.{nat_tests}
 use Rattle.std.proofs.lemmas.List.{append-nil}
 use Rattle.std.proofs.lemmas.Result.{IfOk-weaker}
 use Rattle.cb_cache.specs.CacheState.{limits_of}
-use Rattle.cb_frame_types.specs.Grammar.{Fits, IsFrame}
-use Rattle.cb_frame_types.specs.Spelling.{spelling}
-use Rattle.cb_frame_types.specs.Kinds.{goes_to_server, kind_of_body}
-use Rattle.cb_frame_types.specs.declared.frame.Body.{Body}
-use Rattle.cb_frame_types.specs.declared.frame.Body.TheVariants as body
-use Rattle.cb_frame_types.specs.declared.frame.ShortBody.TheVariants as short
-use Rattle.cb_frame_types.specs.declared.frame.Frame.{Frame}
+use Rattle.cb_frame.specs.Grammar.{Fits, IsFrame}
+use Rattle.cb_frame.specs.Spelling.{spelling}
+use Rattle.cb_frame.specs.Kinds.{goes_to_server, kind_of_body}
+use Rattle.cb_frame.specs.declared.frame.Body.{Body}
+use Rattle.cb_frame.specs.declared.frame.Body.TheVariants as body
+use Rattle.cb_frame.specs.declared.frame.ShortBody.TheVariants as short
+use Rattle.cb_frame.specs.declared.frame.Frame.{Frame}
 use Rattle.cb_outbox.specs.Messages.{body_of, message_of, messages_of}
-use Rattle.cb_world_clients.specs.Packets.{IsFrameAt, PacketsState}
-use Rattle.cb_world_clients.specs.Wire.{AllSpell, Spells}
+use Rattle.cb_world.specs.Packets.{IsFrameAt, PacketsState}
+use Rattle.cb_world.specs.Wire.{AllSpell, Spells}
 use Rattle.cb_page.specs.Bounds.{Bounds}
 use Rattle.cb_protocol.proofs.Cases.{call_accepted, call_refused, step_again, step_call, step_call_no_client, step_flush_all, step_flush_to, step_restart, step_take}
 use Rattle.cb_protocol.specs.AnyMessages.{Input, ReachesDisk, SendsAgain, input_steps}
@@ -35,9 +35,9 @@ use Rattle.cb_protocol.specs.World.{ClientCalls, Event, EventChoiceAllowed, Flus
 use Rattle.cb_server_state.specs.declared.server_state.ServerState.{ServerState}
 use Rattle.cb_server.specs.ServerValue.{IsUnchanged, ServerValue, commits_of, server_of}
 use Rattle.cb_server.specs.Taking.{Does, Takes}
-use Rattle.cb_world_clients.specs.ByWorld.{Answers, Delivers}
-use Rattle.cb_world_clients.specs.WorldClientsState as world_clients
-use Rattle.cb_world_clients.specs.WorldClientsState.{WorldClientsState, client_at}
+use Rattle.cb_world.specs.ByWorld.{Answers, Delivers}
+use Rattle.cb_world.specs.WorldClientsState as world_clients
+use Rattle.cb_world.specs.WorldClientsState.{WorldClientsState, client_at}
 use Rattle.cb_transcript.specs.ProtocolEvents.{sent_of, word_of}
 use Rattle.cb_transcript.specs.declared.answer.Answer.{Answer}
 use Rattle.cb_transcript.specs.declared.answer.AnswerWord.{AnswerWord as Word}

@@ -8,9 +8,9 @@ use Rattle.cb_cache.specs.CacheState.{limits_of}
 use Rattle.cb_commit.specs.History.{AreCommits, remembered, store_at}
 use Rattle.cb_commit.specs.Stores.{StoreState}
 use Rattle.cb_commit.specs.declared.commit.Commit.{Commit}
-use Rattle.cb_event.specs.declared.event.Event.{Event}
-use Rattle.cb_lives.proofs.AccountsKept.{told_the_truth}
-use Rattle.cb_lives.proofs.LivesGoOn.{lives_go_on}
+use Rattle.cb_transcript.specs.declared.event.Event.{Event}
+use Rattle.cb_laws.proofs.AccountsKept.{told_the_truth}
+use Rattle.cb_laws.proofs.LivesGoOn.{lives_go_on}
 use Rattle.cb_page.specs.Bounds.{Bounds}
 use Rattle.cb_protocol.proofs.LivesProof.{lives_headline}
 use Rattle.cb_protocol.specs.AnyMessages.{committed_names}

@@ -3,16 +3,16 @@ use Rattle.std.proofs.Common.{◌≡◌, ◌+◌, ◌<◌, take, ℕ, List, [], 
 use Rattle.std.specs.Prelude.{slice_get, slice_index_or}
 use Rattle.std.proofs.lemmas.List.{length-append, length-take-le, take_more}
 use Rattle.std.specs.List.{AllByRecursion}
-use Rattle.cb_frame_types.specs.Kinds.{code_of, kind_of_body}
-use Rattle.cb_frame_types.specs.Grammar.{Fits}
-use Rattle.cb_frame_types.specs.Spelling.{spelling}
-use Rattle.cb_frame_types.specs.declared.frame.Body.{Body}
-use Rattle.cb_frame_types.specs.declared.frame.Body.TheVariants as body
-use Rattle.cb_frame_types.specs.declared.frame.ShortBody.TheVariants as short
-use Rattle.cb_frame_types.specs.declared.frame.Frame.{Frame}
+use Rattle.cb_frame.specs.Kinds.{code_of, kind_of_body}
+use Rattle.cb_frame.specs.Grammar.{Fits}
+use Rattle.cb_frame.specs.Spelling.{spelling}
+use Rattle.cb_frame.specs.declared.frame.Body.{Body}
+use Rattle.cb_frame.specs.declared.frame.Body.TheVariants as body
+use Rattle.cb_frame.specs.declared.frame.ShortBody.TheVariants as short
+use Rattle.cb_frame.specs.declared.frame.Frame.{Frame}
 use Rattle.cb_outbox.specs.Messages.{body_of, messages_of}
-use Rattle.cb_world_clients.specs.Packets.{IsSpelled}
-use Rattle.cb_world_clients.specs.Wire.{AllSpell, Spells}
+use Rattle.cb_world.specs.Packets.{IsSpelled}
+use Rattle.cb_world.specs.Wire.{AllSpell, Spells}
 use Rattle.cb_page.specs.Bounds.{Bounds}
 use Rattle.cb_protocol.specs.Messages.{Message, kind}
 use Rattle.cb_protocol.specs.World.{numbered_from, packet_at}

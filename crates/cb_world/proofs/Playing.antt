@@ -7,7 +7,7 @@ use Rattle.cb_transcript.specs.ProtocolEvents.{event_of, answer_of}
 use Rattle.cb_cache.specs.CacheState.{limits_of}
 use Rattle.cb_transcript.specs.Transcripts.{TranscriptState}
 use Rattle.cb_world.specs.WorldState.{WorldState, Represents, opened, told}
-use Rattle.cb_event.specs.declared.event.Event.{Event}
+use Rattle.cb_transcript.specs.declared.event.Event.{Event}
 use Rattle.cb_transcript.specs.declared.answer.Answer.{Answer}
 use Rattle.cb_transcript.specs.declared.answer.TranscriptEntry.{TranscriptEntry}
 use Rattle.cb_world.proofs.Worlds.{after_more, plays_more, promises_more, reached_more}

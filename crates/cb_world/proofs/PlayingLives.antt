@@ -3,7 +3,7 @@ use Rattle.std.proofs.Common.{◌≡◌, false, List, [], ◌∷◌, ◌++◌, m
 use Rattle.std.specs.List.{AllByRecursion}
 use Rattle.std.proofs.lemmas.List.{append-nil, map-append}
 use Rattle.cb_cache.specs.CacheState.{limits_of}
-use Rattle.cb_event.specs.declared.lives_event.LivesEvent.{LivesEvent}
+use Rattle.cb_transcript.specs.declared.lives_event.LivesEvent.{LivesEvent}
 use Rattle.cb_page.specs.Bounds.{Bounds}
 use Rattle.cb_protocol.specs.Basics.{Limits}
 use Rattle.cb_protocol.specs.Headline.{SoundOpening}

@@ -14,13 +14,13 @@ use Rattle.cb_world.specs.Plays.{IsWorld, IsReached, Steps}
 use Rattle.cb_transcript.specs.ProtocolEvents.{event_of, answer_of, word_of, sent_of, entry_of, transcript_of}
 use Rattle.cb_cache.specs.CacheState.{limits_of}
 use Rattle.cb_server_state.specs.States.{opening_of}
-use Rattle.cb_world_clients.specs.Packets.{IsSpelled}
+use Rattle.cb_world.specs.Packets.{IsSpelled}
 use Rattle.cb_world.specs.NetState.{NetState, RepresentsNet, limits_in}
 use Rattle.cb_transcript.specs.Transcripts.{name_of}
 use Rattle.cb_transcript.specs.declared.transcript.TransactionName.{TransactionName}
 use Rattle.cb_world.specs.WorldState.{WorldState, Represents, Tells, opened}
 use Rattle.cb_world.proofs.Telling.{told_is_serial}
-use Rattle.cb_event.specs.declared.event.Event.{Event}
+use Rattle.cb_transcript.specs.declared.event.Event.{Event}
 use Rattle.cb_transcript.specs.declared.answer.Answer.{Answer}
 use Rattle.cb_transcript.specs.declared.answer.TranscriptEntry.{TranscriptEntry}
 use Rattle.cb_world.proofs.Packing.{spell_length}

@@ -2,9 +2,9 @@
 use Rattle.std.specs.Prelude.{◌≡◌, ℕ, ⊤, List, [], ◌∷◌, length}
 use Rattle.cb_commit.specs.Stores.{zeros}
 use Rattle.cb_cache.specs.CacheState.{limits_of}
-use Rattle.cb_event.specs.Drawn.{DrawingState, drawn_event, drawn_kind, starts, words_of}
-use Rattle.cb_event.specs.RandomWords.{after_words}
-use Rattle.cb_event.specs.declared.event.Event.{Event}
+use Rattle.cb_transcript.specs.Drawn.{DrawingState, drawn_event, drawn_kind, starts, words_of}
+use Rattle.cb_transcript.specs.RandomWords.{after_words}
+use Rattle.cb_transcript.specs.declared.event.Event.{Event}
 use Rattle.cb_server_state.specs.States.{opening_of}
 use Rattle.cb_page.specs.Bounds.{Bounds}
 use Rattle.cb_protocol.specs.World.{new_world}

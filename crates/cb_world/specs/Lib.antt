@@ -1,3 +1,7 @@
+pub mod ByWorld
+pub mod Packets
+pub mod WorldClientsState
+pub mod Wire
 pub mod NetState
 pub mod NetMoves
 pub mod WorldState

@@ -2,7 +2,7 @@
 use Rattle.std.specs.Prelude.{◌≡◌, ⊤, false, List, [], ◌∷◌, ◌++◌, map}
 use Rattle.std.specs.List.{AllByRecursion}
 use Rattle.cb_cache.specs.CacheState.{limits_of}
-use Rattle.cb_event.specs.declared.lives_event.LivesEvent.{LivesEvent}
+use Rattle.cb_transcript.specs.declared.lives_event.LivesEvent.{LivesEvent}
 use Rattle.cb_protocol.specs.Basics.{Limits}
 use Rattle.cb_protocol.specs.Lives.{lives_commits}
 use Rattle.cb_protocol.specs.LivesWorld as protocol

@@ -2,7 +2,7 @@
 use Rattle.std.specs.Prelude.{◌≡◌, ℕ, Bool, List, length, Option, None}
 use Rattle.cb_cache.specs.CacheState.{limits_of}
 use Rattle.cb_commit.specs.Stores.{StoreState}
-use Rattle.cb_lives.specs.Outcomes.{OutcomesAreTrue}
+use Rattle.cb_laws.specs.Outcomes.{OutcomesAreTrue}
 use Rattle.cb_page.specs.Bounds.{Bounds}
 use Rattle.cb_protocol.specs.Basics.{Limits}
 use Rattle.cb_protocol.specs.Headline.{SoundOpening}

@@ -3,10 +3,10 @@ use Rattle.std.specs.Prelude.{◌≡◌, ◌+◌, ◌++◌, ℕ, Bool, true, fal
 use Rattle.std.specs.Prelude.{Option, None, Some}
 use Rattle.std.specs.List.{AllByRecursion}
 use Rattle.cb_cache.specs.CacheState.{limits_of}
-use Rattle.cb_frame_types.specs.Kinds.{kind_of_body}
-use Rattle.cb_frame_types.specs.Spelling.{spelling}
-use Rattle.cb_frame_types.specs.declared.frame.Frame.{Frame}
-use Rattle.cb_world_clients.specs.Packets.{IsSpelled}
+use Rattle.cb_frame.specs.Kinds.{kind_of_body}
+use Rattle.cb_frame.specs.Spelling.{spelling}
+use Rattle.cb_frame.specs.declared.frame.Frame.{Frame}
+use Rattle.cb_world.specs.Packets.{IsSpelled}
 use Rattle.cb_protocol.specs.Answers.{AnswerWord, NoClient, NoPacket, Refused}
 use Rattle.cb_protocol.specs.Flush.{can_flush}
 use Rattle.cb_protocol.specs.Messages.{Message}

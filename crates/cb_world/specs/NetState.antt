@@ -1,12 +1,12 @@
 -- A net as its callers see it, and the part of the protocol's world that it is.
 use Rattle.std.specs.Prelude.{◌≡◌}
-use Rattle.cb_world_clients.specs.Packets.{PacketsState}
-use Rattle.cb_world_clients.specs.Wire.{AllSpell}
+use Rattle.cb_world.specs.Packets.{PacketsState}
+use Rattle.cb_world.specs.Wire.{AllSpell}
 use Rattle.cb_page.specs.Bounds.{Bounds}
 use Rattle.cb_protocol.specs.World as protocol
 use Rattle.cb_server.specs.ServerValue.{ServerValue, commits_of, server_of}
-use Rattle.cb_world_clients.specs.WorldClientsState as world_clients
-use Rattle.cb_world_clients.specs.WorldClientsState.{WorldClientsState}
+use Rattle.cb_world.specs.WorldClientsState as world_clients
+use Rattle.cb_world.specs.WorldClientsState.{WorldClientsState}
 
 -- the server, the clients at their present incarnations, and every packet that was ever sent
 pub record NetState : Type 0 where

@@ -2,13 +2,13 @@
 use Rattle.std.specs.Prelude.{◌≡◌, ℕ, false, List, [], ◌∷◌, ◌++◌, length, map}
 use Rattle.std.specs.List.{AllByRecursion}
 use Rattle.cb_world.specs.NetState.{limits_in}
-use Rattle.cb_world_clients.specs.Packets.{IsSpelled}
+use Rattle.cb_world.specs.Packets.{IsSpelled}
 use Rattle.cb_transcript.specs.ProtocolEvents.{event_of, answer_of}
 use Rattle.cb_cache.specs.CacheState.{limits_of}
 use Rattle.cb_transcript.specs.Transcripts.{IsSerialOnOpening, TranscriptState}
 use Rattle.cb_transcript.specs.declared.transcript.TransactionName.{TransactionName}
 use Rattle.cb_world.specs.WorldState.{WorldState, Represents, TellsCommits, opened, told}
-use Rattle.cb_event.specs.declared.event.Event.{Event}
+use Rattle.cb_transcript.specs.declared.event.Event.{Event}
 use Rattle.cb_transcript.specs.declared.answer.Answer.{Answer}
 use Rattle.cb_transcript.specs.declared.answer.TranscriptEntry.{TranscriptEntry}
 use Rattle.cb_protocol.specs.Headline.{Promise, SoundOpening}

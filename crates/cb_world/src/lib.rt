@@ -4,16 +4,29 @@
 //! store, whatever events are played. The protocol's whole promise therefore holds of it at each
 //! moment. [`Lives`] is the same for a server that restarts, over all its lives. [`draw`] draws
 //! schedules: random events, in a world that plays them as they come.
+//!
+//! In contracts [`WorldClients`] are the clients of a world of the protocol: each call, packet and
+//! restart changes them as the protocol's step changes that world. Each of [`Packets`] has the
+//! bytes of a frame. A packet is sent by encoding the frame, and taken by decoding the bytes, any
+//! number of times and in any order. Taking a packet doesn't remove it.
 #![tactic(auto)]
 
+mod calling;
 mod laws;
 mod life;
 mod lives;
 mod net;
+mod packet;
+mod packets;
+mod reply;
 mod schedule;
 mod world;
+mod world_clients;
 
 pub use laws::worlds_are_serial;
 pub use lives::{Lives, LivesFault};
+pub use packets::Packets;
+pub use reply::Reply;
 pub use schedule::draw;
 pub use world::{PlayFault, World};
+pub use world_clients::WorldClients;

@@ -22,11 +22,10 @@ use crate::life::{is_new_floor, may_be_on_disk, next_life};
 use crate::net::Net;
 use crate::world::untold;
 use cb_commit::Store;
-use cb_event::{Event, LivesEvent};
 use cb_page::{Incarnation, Limits};
 use cb_transcript::{
-    Answer, LivesEntry, LivesTranscript, RestartAnswer, RestartEntry, RestartRefusal,
-    TranscriptEntry,
+    Answer, Event, LivesEntry, LivesEvent, LivesTranscript, RestartAnswer, RestartEntry,
+    RestartRefusal, TranscriptEntry,
 };
 use cb_twoq::Chooser;
 use std::alloc::{AllocError, Global};

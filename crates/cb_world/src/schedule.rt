@@ -4,8 +4,8 @@ ghost use Rattle.cb_world.specs.Draws.{AreDrawn, AreNext, IsNext};
 
 use crate::world::World;
 use cb_commit::Store;
-use cb_event::{Drawing, Event};
 use cb_page::Limits;
+use cb_transcript::{Drawing, Event};
 use cb_twoq::TwoQ;
 use std::alloc::{AllocError, Global};
 

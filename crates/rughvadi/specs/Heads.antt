@@ -1,9 +1,9 @@
 -- What the head of a frame says.
 use Rattle.std.specs.Prelude.{◌≡◌, ◌≤◌, ℕ, List, Option, length, take}
 use Rattle.std.specs.Option.{option_or}
-use Rattle.cb_frame_types.specs.Grammar.{IsFrameInSome}
-use Rattle.cb_frame_types.specs.Kinds.{code_of, kind_of_body}
-use Rattle.cb_frame_types.specs.declared.frame.Frame.{Frame}
+use Rattle.cb_frame.specs.Grammar.{IsFrameInSome}
+use Rattle.cb_frame.specs.Kinds.{code_of, kind_of_body}
+use Rattle.cb_frame.specs.declared.frame.Frame.{Frame}
 use Rattle.cb_handle.specs.Causes.{in_bytes, in_limits}
 use Rattle.cb_handle.specs.declared.refusal.Refusal.{Refusal}
 use Rattle.cb_page.specs.Bounds.{Bounds}

@@ -9,7 +9,7 @@ ghost use Rattle.cb_client.specs.CallAnswers.{short_message};
 ghost use Rattle.cb_client_core.specs.ClientState.{client_of, is_gone};
 ghost use Rattle.cb_protocol.specs.Messages.{Drop as DropBody};
 ghost use Rattle.cb_client.specs.declared.client_fault.ClientFault.TheVariants.{Memory};
-ghost use Rattle.cb_frame_types.specs.Grammar.{Fits};
+ghost use Rattle.cb_frame.specs.Grammar.{Fits};
 ghost use Rattle.cb_outbox.specs.Messages.{message_of, messages_of};
 ghost use Rattle.cb_protocol.specs.Answers.{AnsweredOk};
 ghost use Rattle.cb_protocol.specs.Client.{bodies_said};

@@ -8,7 +8,7 @@ ghost use Rattle.cb_client.specs.ByTable.{Called, Calls, IsDecided, IsFirst, as_
 ghost use Rattle.cb_client.specs.CallAnswers.{AnswersRead, Begins, after_read, after_read_here};
 ghost use Rattle.cb_client.specs.CallAnswers.{bytes_at, page_read, reads_here, sees};
 ghost use Rattle.cb_client.specs.CallAnswers.{ShortFrameFits, WantFits, Wants, Writes};
-ghost use Rattle.cb_frame_types.specs.Grammar.{Fits};
+ghost use Rattle.cb_frame.specs.Grammar.{Fits};
 ghost use Rattle.cb_client.specs.Lending.{client_ends_as};
 ghost use Rattle.cb_client_core.specs.declared.stage.PendingAsk.TheVariants.{Nothing};
 ghost use Rattle.cb_client_core.specs.declared.stage.Stage.TheVariants.{Idle, Open};

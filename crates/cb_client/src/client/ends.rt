@@ -2,7 +2,7 @@
 ghost use Rattle.std.specs.Prelude.{◌≡◌, ◌+◌, true, IfErr, IfOk, OnOk};
 ghost use Rattle.std.specs.List.{AllByRecursion};
 ghost use Rattle.std.specs.Vec.{vec_capacity};
-ghost use Rattle.cb_frame_types.specs.Grammar.{Fits};
+ghost use Rattle.cb_frame.specs.Grammar.{Fits};
 ghost use Rattle.cb_client.specs.ByTable.{Calls, RefusesOrLacks, over};
 ghost use Rattle.cb_cache.specs.Room.{room_below};
 ghost use Rattle.cb_client_core.specs.declared.stage.Stage.TheVariants.{Idle};

@@ -6,7 +6,7 @@ ghost use Rattle.cb_client.specs.CallAnswers.{Finishes, FinishesWith, SaysCommit
 ghost use Rattle.cb_client_core.specs.declared.stage.PendingAsk.TheVariants.{Nothing};
 ghost use Rattle.cb_client_core.specs.declared.stage.Stage.TheVariants.{Idle, Open};
 ghost use Rattle.cb_client.specs.declared.client_fault.ClientFault.TheVariants.{Memory};
-ghost use Rattle.cb_frame_types.specs.Grammar.{Fits};
+ghost use Rattle.cb_frame.specs.Grammar.{Fits};
 ghost use Rattle.cb_protocol.specs.ClientCalls.{CallFinish};
 
 use crate::client::Client;

@@ -6,7 +6,7 @@ ghost use Rattle.std.specs.Vec.{vec_capacity};
 ghost use Rattle.cb_frame.specs.Checks.{has_pages, kind_of};
 ghost use Rattle.cb_frame.specs.declared.fault.BytesFault.TheVariants as reading;
 ghost use Rattle.cb_frame.specs.declared.fault.FrameFault.TheVariants as fault;
-ghost use Rattle.cb_frame_types.specs.Grammar.{Fits};
+ghost use Rattle.cb_frame.specs.Grammar.{Fits};
 ghost use Rattle.cb_client.specs.ByTable.{Takes};
 ghost use Rattle.cb_client.specs.FramesTaken.{IsBytesFault, TakesBytes, TakesFrame, brings_page};
 ghost use Rattle.cb_client.specs.FramesTaken.{room_to_take};

@@ -6,7 +6,7 @@ ghost use Rattle.cb_client_core.specs.ClientState.{IsClient};
 ghost use Rattle.cb_client_core.specs.Meeting.{BringsSo, IfBrings, IsBrought, Meets};
 ghost use Rattle.cb_client_core.specs.Parts.{client_in};
 ghost use Rattle.cb_client_core.specs.Room.{brings_in, room_at};
-ghost use Rattle.cb_frame_types.specs.Grammar.{BodyFits, ShortFits};
+ghost use Rattle.cb_frame.specs.Grammar.{BodyFits, ShortFits};
 ghost use Rattle.cb_page.specs.Numbers.{IsNumber};
 ghost use Rattle.cb_outbox.specs.Messages.{body_of, messages_of, short_of};
 ghost use Rattle.cb_protocol.specs.Messages.{Downgrade, Granted};

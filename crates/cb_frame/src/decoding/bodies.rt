@@ -4,9 +4,9 @@ ghost use Rattle.std.specs.Int.{w32, w64};
 ghost use Rattle.cb_page.specs.Numbers.{is_number};
 ghost use Rattle.cb_page.specs.Faults.{first_fault};
 ghost use Rattle.cb_frame.specs.declared.fault.FrameFault.TheVariants as fault;
-ghost use Rattle.cb_frame_types.specs.Fields.{fields_fit, fields_of};
-ghost use Rattle.cb_frame_types.specs.Kinds.{is_short};
-ghost use Rattle.cb_frame_types.specs.Versions.{size_length};
+ghost use Rattle.cb_frame.specs.Fields.{fields_fit, fields_of};
+ghost use Rattle.cb_frame.specs.Kinds.{is_short};
+ghost use Rattle.cb_frame.specs.Versions.{size_length};
 ghost use Rattle.cb_frame.specs.Checks.{body_causes, can_be_length, short_at, commit_at};
 ghost use Rattle.cb_frame.specs.Checks.{granted_at, body_at, number, short_length, Gives};
 ghost use Rattle.cb_frame.specs.Checks.{GivesInRange};
@@ -48,7 +48,7 @@ pub fn body_of(
 }
 
 /// A body without page bytes.
-#[tactic(auto, unfolding(crate::specs::Checks::short_length, crate::specs::Checks::short_at, cb_frame_types::specs::Fields::fields_fit))]
+#[tactic(auto, unfolding(crate::specs::Checks::short_length, crate::specs::Checks::short_at, crate::specs::Fields::fields_fit))]
 fn short_of(limits: &Limits, kind: Kind, body: &[u8]) -> Result<ShortBody, FrameFault>
     requires len { length body.now ≡ short_length kind }
     requires short { is_short kind ≡ true }

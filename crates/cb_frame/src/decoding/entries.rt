@@ -6,7 +6,7 @@ ghost use Rattle.std.specs.List.{list_all};
 ghost use Rattle.cb_page.specs.Numbers.{is_number};
 ghost use Rattle.cb_page.specs.Rising.{is_rising};
 ghost use Rattle.cb_frame.specs.Checks.{is_write, number, write_in, write_length, writes_at};
-ghost use Rattle.cb_frame_types.specs.Grammar.{page_of};
+ghost use Rattle.cb_frame.specs.Grammar.{page_of};
 
 use crate::decoding::lengths::write_length;
 use crate::decoding::numbers::{is_number, page_grant_at, u32_at, u64_at};

@@ -2,7 +2,7 @@
 ghost use Rattle.std.specs.Prelude.{◌≡◌, ◌≤◌, ◌+◌, ◌*◌, length, true};
 ghost use Rattle.cb_frame.specs.Checks.{can_be_length, count_in, parts_fit, short_length};
 ghost use Rattle.cb_frame.specs.Checks.{sizes_fit, write_length};
-ghost use Rattle.cb_frame_types.specs.Kinds.{is_short};
+ghost use Rattle.cb_frame.specs.Kinds.{is_short};
 
 use crate::decoding::numbers::{size_at, u16_at};
 use crate::{FrameVersion, Kind};

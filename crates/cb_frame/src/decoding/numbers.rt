@@ -3,7 +3,7 @@ ghost use Rattle.std.specs.Prelude.{◌≡◌, ◌+◌, ◌≤◌, ◌&&◌, len
 ghost use Rattle.std.specs.Int.{w16, w32, w64};
 ghost use Rattle.cb_page.specs.Numbers.{is_number, is_version};
 ghost use Rattle.cb_frame.specs.Checks.{number, GivesInRange};
-ghost use Rattle.cb_frame_types.specs.Versions.{size_length, size_width};
+ghost use Rattle.cb_frame.specs.Versions.{size_length, size_width};
 
 use crate::{FrameFault, FrameVersion};
 use cb_page::{CommitNo, GrantNo, Limits, MAX_NUMBER, PageNo, TxnNo, Version};

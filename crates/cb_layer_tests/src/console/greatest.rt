@@ -2,8 +2,8 @@
 //! clients or of pages on is refused here, which no clause can say.
 
 use cb_commit::Store;
-use cb_event::{Call, Event};
 use cb_page::{ClientNo, Limits, PageNo};
+use cb_transcript::{Call, Event};
 use cb_twoq::TwoQ;
 use cb_world::World;
 use std::alloc::Global;

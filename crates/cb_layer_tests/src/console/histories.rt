@@ -1,11 +1,11 @@
 //! Histories, small and great, with the first operation that isn't legal.
 
 use cb_commit::Store;
-use cb_event::{Call, Event};
 use cb_page::{ClientNo, Incarnation, Limits, PageNo, TxnNo};
 use cb_test_parts::stores::page_of;
 use cb_transcript::{
-    Answer, AnswerWord, TransactionName, Transcript, TranscriptEntry, Verdict, check_serial,
+    Answer, AnswerWord, Call, Event, TransactionName, Transcript, TranscriptEntry, Verdict,
+    check_serial,
 };
 use std::alloc::{AllocError, Global};
 use std::test::Fail;

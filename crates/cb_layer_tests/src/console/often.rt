@@ -2,9 +2,8 @@
 //! from some number on is refused here, which no clause can say.
 
 use cb_commit::Store;
-use cb_event::{Call, Event};
 use cb_page::{ClientNo, Limits};
-use cb_transcript::Answer;
+use cb_transcript::{Answer, Call, Event};
 use cb_twoq::TwoQ;
 use cb_world::World;
 use std::alloc::Global;

@@ -1,7 +1,7 @@
 //! A schedule of more events than there may be.
 
-use cb_event::{ScheduleFault, read_schedule};
 use cb_page::Limits;
+use cb_transcript::{ScheduleFault, read_schedule};
 use std::alloc::{AllocError, Global};
 
 /// A text, doubled so many times.

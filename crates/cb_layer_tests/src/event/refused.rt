@@ -1,8 +1,8 @@
 //! A schedule where growths of memory are refused.
 
-use cb_event::{Event, ScheduleFault, read_schedule};
 use cb_page::Limits;
 use cb_test_parts::stores::small_limits;
+use cb_transcript::{Event, ScheduleFault, read_schedule};
 use std::alloc::Global;
 
 /// Whether a schedule of four events is read, or memory was refused.

@@ -20,11 +20,11 @@ ghost use Rattle.cb_server.specs.Taking.{input_of};
 use crate::office_fault::OfficeFault;
 use crate::reading::{holds_all, may_write_all, pages_of, reads_of};
 use crate::station::Station;
+use cb_commit::Past;
 use cb_frame::{Body, Frame};
 use cb_hands::{Entry, Hand, JoinedHands};
 use cb_links::Standing;
 use cb_page::{ClientNo, CommitNo, PageNo, PageSet, TxnNo, Version};
-use cb_past::Past;
 use std::alloc::{AllocError, Global};
 
 impl Station {

@@ -1,8 +1,8 @@
 //! The gate of all runs: one type, so that a run is built once; and workers that wait for each
 //! other.
 use crate::running::run::{Came, run_to_end};
-use cb_jobs::{Gate, Turn};
 use cb_page::{ClientNo, CommitNo};
+use cb_run::{Gate, Turn};
 use cb_station::{Office, Station};
 use std::sync::atomic::{AtomicU64, Ordering};
 use std::sync::{Mutex, Wait};

@@ -2,7 +2,7 @@
 use Rattle.std.proofs.Common.{◌≡◌, List, subst, rules}
 use Rattle.std.specs.Io.KnownBytes.{Appends}
 use Rattle.std.specs.List.{flat_map}
-use Rattle.cb_event.specs.declared.event.Event.{Event}
+use Rattle.cb_transcript.specs.declared.event.Event.{Event}
 use Rattle.cb_console.specs.DrawnText.{event_text}
 use Rattle.cb_console.proofs.PrintedDraws.{drawn_run, refused_run}
 use Rattle.cb_console.proofs.drawn.draw_to.Goals as goal

@@ -1,7 +1,7 @@
 -- Goals of `encode`.
 use Rattle.std.proofs.Common.{arith, append_assoc}
 use Rattle.std.proofs.lemmas.Grind.{common_steps}
-use Rattle.cb_frame_types.specs.Spelling.{spelling, spelling_in}
+use Rattle.cb_frame.specs.Spelling.{spelling, spelling_in}
 use Rattle.cb_frame.proofs.encoding.encode.Goals as goal
 
 pub returns : goal.returns

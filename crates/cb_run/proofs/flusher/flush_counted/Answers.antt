@@ -3,7 +3,7 @@ use Rattle.std.proofs.Common.{◌∙◌, rules, subst}
 use Rattle.cb_page.specs.Bounds.{Bounds}
 use Rattle.cb_run.proofs.Flushing.{stops, survives_more, writes_more}
 use Rattle.cb_shelf.specs.Flushing.{WritesOne, WritesOrStays}
-use Rattle.cb_sql.specs.Writing.{Wrote}
+use Rattle.cb_shelf.specs.Writing.{Wrote}
 use Rattle.cb_run.proofs.flusher.flush_counted.Goals as goal
 
 pub returns-in-Err-flush_batch-clause-stops : goal.returns-in-Err-flush_batch-clause-stops

@@ -6,7 +6,7 @@ use Rattle.cb_commit.specs.Batches.{BatchState}
 use Rattle.cb_run.proofs.Flushing.{stops_first, survives_first, survives_held}
 use Rattle.cb_run.specs.Flushing.{LeavesFirst, MadeFirst}
 use Rattle.cb_shelf.specs.Flushing.{WritesOne, WritesOrStays}
-use Rattle.cb_sql.specs.Writing.{Wrote}
+use Rattle.cb_shelf.specs.Writing.{Wrote}
 use Rattle.cb_run.proofs.flusher.flush_counted_again.Goals as goal
 
 pub returns-in-Err-clause-stops : goal.returns-in-Err-clause-stops

@@ -2,8 +2,8 @@
 use Rattle.std.proofs.Common.{◌≡◌, ℕ, List, ap, sym, take, drop, false}
 use Rattle.std.proofs.lemmas.List.{take-append-drop}
 use Rattle.cb_frame.proofs.Again.{spelled_again}
-use Rattle.cb_frame_types.specs.Grammar.{IsFrameInSome}
-use Rattle.cb_frame_types.specs.declared.frame.Frame.{Frame}
+use Rattle.cb_frame.specs.Grammar.{IsFrameInSome}
+use Rattle.cb_frame.specs.declared.frame.Frame.{Frame}
 use Rattle.cb_page.specs.Bounds.{AreInRange, Bounds}
 use Rattle.cb_serve.specs.Streams.{is_no_header, is_of_header}
 use Rattle.cb_serve.proofs.front.is_no_header.Goals as goal

@@ -3,7 +3,7 @@ use Rattle.std.proofs.Common.{◌≡◌, ◌∙◌, ℕ, zero, suc, ◌+◌, ◌
 use Rattle.std.proofs.lemmas.List.{length-take-le}
 use Rattle.std.proofs.lemmas.Result.{IfOk-weaker}
 use Rattle.cb_frame.specs.Checks.{body_length}
-use Rattle.cb_frame_types.specs.Grammar.{IsFrameInSome}
+use Rattle.cb_frame.specs.Grammar.{IsFrameInSome}
 use Rattle.cb_page.specs.Bounds.{Bounds}
 use Rattle.cb_serve.specs.Fronts.{IsFront, IsWhole}
 use Rattle.cb_serve.specs.Streams.{IsUnread, is_no_header}

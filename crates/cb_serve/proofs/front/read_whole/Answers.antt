@@ -3,9 +3,9 @@ use Rattle.std.proofs.Common.{◌≡◌, ◌++◌, ℕ, List, [], ◌↔◌, IsT
 use Rattle.std.proofs.lemmas.List.{append-nil}
 use Rattle.cb_frame.specs.declared.fault.FrameFault.{FrameFault}
 use Rattle.cb_frame.specs.declared.fault.FrameFault.TheVariants as fault
-use Rattle.cb_frame_types.specs.Grammar.{IsFrameIn, IsFrameInSome}
-use Rattle.cb_frame_types.specs.declared.frame.Frame.{Frame}
-use Rattle.cb_frame_types.specs.declared.version.FrameVersion.{FrameVersion}
+use Rattle.cb_frame.specs.Grammar.{IsFrameIn, IsFrameInSome}
+use Rattle.cb_frame.specs.declared.frame.Frame.{Frame}
+use Rattle.cb_frame.specs.declared.version.FrameVersion.{FrameVersion}
 use Rattle.cb_page.specs.Bounds.{Bounds}
 use Rattle.cb_serve.proofs.front.read_whole.Goals as goal
 

@@ -7,7 +7,7 @@ use Rattle.cb_server.specs.ServerValue.{server_of}
 use Rattle.cb_server_state.specs.States.{or_zero}
 use Rattle.cb_shelf.specs.LifeRows.{LifeState, life_row}
 use Rattle.cb_shelf.specs.Living.{MadeBy, life_end, raised}
-use Rattle.cb_sql.specs.Statements.{MakesAll}
+use Rattle.cb_shelf.specs.Statements.{MakesAll}
 use Rattle.cb_serve.specs.Living.MakesRoom.{made}
 use Rattle.cb_serve.proofs.Hearing.{room_left}
 use Rattle.cb_serve.proofs.lives.keep_room.Goals as goal

@@ -1,7 +1,7 @@
 -- What holds at each turn of the loop of `append_frames`.
 use Rattle.std.proofs.Common.{◌≡◌, ◌++◌, take}
 use Rattle.std.specs.List.{flat_map}
-use Rattle.cb_frame_types.specs.Spelling.{spelling}
+use Rattle.cb_frame.specs.Spelling.{spelling}
 use Rattle.cb_serve.proofs.output.append_frames.Given as goal
 
 abbrev pub invariant-loop-frame : goal.invariant-loop-frame

@@ -2,7 +2,7 @@
 use Rattle.std.proofs.Common.{◌≡◌, ◌∙◌, ◌++◌, ℕ, List, Err, ap, option_map, rules, subst, sym, take}
 use Rattle.std.specs.Io.KnownBytes.{Appends}
 use Rattle.std.specs.List.{flat_map}
-use Rattle.cb_frame_types.specs.Spelling.{spelling}
+use Rattle.cb_frame.specs.Spelling.{spelling}
 use Rattle.cb_outbox.specs.Messages.{messages_of}
 use Rattle.cb_protocol.specs.AnyMessages.{ReachesDisk}
 use Rattle.cb_server.specs.ServerValue.{forgot}

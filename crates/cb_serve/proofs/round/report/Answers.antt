@@ -1,7 +1,7 @@
 -- Goals of `report`.
 use Rattle.std.proofs.Common.{◌∙◌, ◌≤◌, ℕ, ap, arith, subst, sym}
 use Rattle.std.specs.List.{AllByRecursion}
-use Rattle.cb_frame_types.specs.Grammar.{Fits}
+use Rattle.cb_frame.specs.Grammar.{Fits}
 use Rattle.cb_outbox.specs.Messages.{messages_of}
 use Rattle.cb_page.specs.Bounds.{Bounds}
 use Rattle.cb_protocol.specs.AnyMessages.{ReachesDisk}

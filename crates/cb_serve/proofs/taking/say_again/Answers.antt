@@ -1,7 +1,7 @@
 -- Goals of `say_again`.
 use Rattle.std.proofs.Common.{◌∙◌}
 use Rattle.std.specs.List.{flat_map}
-use Rattle.cb_frame_types.specs.Spelling.{spelling}
+use Rattle.cb_frame.specs.Spelling.{spelling}
 use Rattle.cb_protocol.specs.AnyMessages.{SendsAgain}
 use Rattle.cb_serve.proofs.Hearing.{knows_again}
 use Rattle.cb_serve.proofs.Inputs.{answers_one, appended, fits_still}

@@ -2,7 +2,7 @@
 use Rattle.std.proofs.Common.{◌≡◌, ◌∙◌, [], false, sym}
 use Rattle.std.proofs.lemmas.List.{append-nil}
 use Rattle.std.specs.List.{flat_map}
-use Rattle.cb_frame_types.specs.Spelling.{spelling}
+use Rattle.cb_frame.specs.Spelling.{spelling}
 use Rattle.cb_server.specs.Taking.{input_of}
 use Rattle.cb_serve.proofs.Faults.{on_memory}
 use Rattle.cb_serve.proofs.Hearing.{is_heard, knows_frame, unheard}

@@ -1,7 +1,7 @@
 -- Goals of `take_front`.
 use Rattle.std.proofs.Common.{◌≡◌, [], Err, rules, subst, sym}
 use Rattle.std.proofs.lemmas.List.{append-nil}
-use Rattle.cb_frame_types.specs.Grammar.{Fits}
+use Rattle.cb_frame.specs.Grammar.{Fits}
 use Rattle.cb_page.specs.Bounds.{Bounds}
 use Rattle.cb_serve.proofs.Faults.{on_fault, on_memory}
 use Rattle.cb_serve.proofs.Pieces.{front_again, front_frame, front_no_frame, front_part, front_refused, front_unread}

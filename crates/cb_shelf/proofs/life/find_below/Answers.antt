@@ -1,6 +1,6 @@
 -- Goals of `find_below`.
 use Rattle.std.proofs.Common.{◌≡◌, true, inl, sym, ◌∙◌, rules}
-use Rattle.cb_sql.proofs.Asking.{tells_last}
+use Rattle.cb_shelf.proofs.Asking.{tells_last}
 use Rattle.cb_shelf.proofs.Questions.{below_asks}
 use Rattle.cb_shelf.proofs.life.find_below.Goals as goal
 

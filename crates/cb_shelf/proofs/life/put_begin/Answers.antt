@@ -2,7 +2,7 @@
 use Rattle.std.proofs.Common.{[], ◌∷◌}
 use Rattle.cb_shelf.specs.LifeRows.{life_row, life_table}
 use Rattle.cb_shelf.specs.Opening.{plain}
-use Rattle.cb_sql.proofs.Stepping.{makes_then}
+use Rattle.cb_shelf.proofs.Stepping.{makes_then}
 use Rattle.cb_shelf.proofs.life.put_begin.Goals as goal
 
 pub returns-clause-inside : goal.returns-clause-inside

@@ -1,7 +1,7 @@
 -- Goals of `clear_old`.
 use Rattle.std.proofs.Common.{◌≡◌, true, [], ◌∷◌, codes, rules}
 use Rattle.cb_shelf.specs.Opening.{plain}
-use Rattle.cb_sql.proofs.Stepping.{makes_then}
+use Rattle.cb_shelf.proofs.Stepping.{makes_then}
 use Rattle.cb_shelf.proofs.opening.clear_old.Goals as goal
 
 pub returns-clause-inside : goal.returns-clause-inside

@@ -1,6 +1,6 @@
 -- Goals of `count_rows`.
 use Rattle.std.proofs.Common.{◌≡◌, Ok, Err, inl, inr, rules}
-use Rattle.cb_sql.proofs.Asking.{tells_then, tells_refused, tells_stops}
+use Rattle.cb_shelf.proofs.Asking.{tells_then, tells_refused, tells_stops}
 use Rattle.cb_shelf.proofs.Questions.{page_count_asks, mark_count_asks}
 use Rattle.cb_shelf.proofs.Telling.{rows_told}
 use Rattle.cb_shelf.proofs.Answering.{not_refused}

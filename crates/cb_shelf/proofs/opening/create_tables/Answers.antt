@@ -2,7 +2,7 @@
 use Rattle.std.proofs.Common.{[], ◌∷◌}
 use Rattle.cb_shelf.specs.LifeRows.{life_table}
 use Rattle.cb_shelf.specs.Opening.{plain, mark_table, page_table, part_table}
-use Rattle.cb_sql.proofs.Stepping.{makes_then}
+use Rattle.cb_shelf.proofs.Stepping.{makes_then}
 use Rattle.cb_shelf.proofs.opening.create_tables.Goals as goal
 
 pub returns-clause-inside : goal.returns-clause-inside

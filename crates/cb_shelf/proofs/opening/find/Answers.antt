@@ -1,6 +1,6 @@
 -- Goals of `find`.
 use Rattle.std.proofs.Common.{◌≡◌, Err, sym, subst, rules}
-use Rattle.cb_sql.proofs.Asking.{tells_last, tells_refused}
+use Rattle.cb_shelf.proofs.Asking.{tells_last, tells_refused}
 use Rattle.cb_shelf.specs.Opening.{Has, tables_of, Misshapen}
 use Rattle.cb_shelf.specs.Opening.Misshapen.{mixed}
 use Rattle.cb_shelf.proofs.Telling.{tells_kept, misfits_misshapen}

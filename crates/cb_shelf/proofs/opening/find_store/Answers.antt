@@ -1,6 +1,6 @@
 -- Goals of `find_store`.
 use Rattle.std.proofs.Common.{◌≡◌, Err, sym, subst, rules}
-use Rattle.cb_sql.proofs.Asking.{tells_refused}
+use Rattle.cb_shelf.proofs.Asking.{tells_refused}
 use Rattle.cb_shelf.specs.declared.opening.TablesFound.{TablesFound}
 use Rattle.cb_shelf.specs.Opening.{MisfitsFor}
 use Rattle.cb_shelf.proofs.opening.find_store.Goals as goal

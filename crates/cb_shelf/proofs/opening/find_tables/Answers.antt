@@ -1,8 +1,8 @@
 -- Goals of `find_tables`.
 use Rattle.std.proofs.Common.{◌≡◌, Err, subst, rules}
 use Rattle.std.proofs.lemmas.Result.{IfOk-weaker}
-use Rattle.cb_sql.proofs.Asking.{tells_then, tells_refused, tells_stops}
-use Rattle.cb_sql.specs.declared.fault.ShelfFault.TheVariants.{Shape}
+use Rattle.cb_shelf.proofs.Asking.{tells_then, tells_refused, tells_stops}
+use Rattle.cb_shelf.specs.declared.fault.ShelfFault.TheVariants.{Shape}
 use Rattle.cb_shelf.specs.Opening.{HasOld}
 use Rattle.cb_shelf.specs.Opening.IsMixed.{some_old, some_new, uncounted}
 use Rattle.cb_shelf.proofs.Answering.{at_err}

@@ -3,7 +3,7 @@ use Rattle.std.proofs.Common.{◌≡◌, subst, rules}
 use Rattle.sqlite.specs.State.{Survives}
 use Rattle.sqlite.specs.Held.{Held, state}
 use Rattle.cb_shelf.specs.Opening.{laid, LaidBy}
-use Rattle.cb_sql.proofs.Asking.{never_from}
+use Rattle.cb_shelf.proofs.Asking.{never_from}
 use Rattle.cb_shelf.proofs.Settling.{commit_survives}
 use Rattle.cb_shelf.proofs.opening.make_tables.Goals as goal
 

@@ -3,7 +3,7 @@ use Rattle.std.proofs.Common.{OnOk, subst, false}
 use Rattle.sqlite.specs.State.{Survives}
 use Rattle.sqlite.specs.Held.{state}
 use Rattle.cb_commit.specs.Stores.{StoreState}
-use Rattle.cb_sql.specs.Statements.{MakesAll}
+use Rattle.cb_shelf.specs.Statements.{MakesAll}
 use Rattle.cb_shelf.specs.Opening.{laid, LaidBy}
 use Rattle.cb_shelf.proofs.opening.make_zeros.Goals as goal
 

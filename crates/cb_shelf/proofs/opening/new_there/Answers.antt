@@ -1,7 +1,7 @@
 -- Goals of `new_there`.
 use Rattle.std.proofs.Common.{◌≡◌, Err, rules}
-use Rattle.cb_sql.specs.Inside.{IsNever}
-use Rattle.cb_sql.proofs.Asking.{tells_then, tells_refused, tells_stops}
+use Rattle.cb_shelf.specs.Inside.{IsNever}
+use Rattle.cb_shelf.proofs.Asking.{tells_then, tells_refused, tells_stops}
 use Rattle.cb_shelf.proofs.Telling.{tells_both, all_told, all_missed}
 use Rattle.cb_shelf.proofs.opening.new_there.Goals as goal
 

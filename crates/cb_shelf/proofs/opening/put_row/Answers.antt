@@ -2,7 +2,7 @@
 use Rattle.std.proofs.Common.{◌≡◌, pos, length, rules}
 use Rattle.sqlite.specs.Value.{owned}
 use Rattle.sqlite.specs.declared.types.Value.TheVariants.{Int}
-use Rattle.cb_sql.proofs.Stepping.{given, three_bound}
+use Rattle.cb_shelf.proofs.Stepping.{given, three_bound}
 use Rattle.cb_shelf.proofs.opening.put_row.Goals as goal
 
 pub returns-clause-inside : goal.returns-clause-inside

@@ -1,9 +1,9 @@
 -- Goals of `put_store`.
 use Rattle.std.proofs.Common.{◌≡◌, ◌+◌, Ok, refl, ◌++◌, rules}
-use Rattle.cb_sql.specs.Statements.{page_statements}
-use Rattle.cb_sql.specs.declared.writing.PageRows.TheVariants.{Absent}
+use Rattle.cb_shelf.specs.Statements.{page_statements}
+use Rattle.cb_shelf.specs.declared.rows.PageRows.TheVariants.{Absent}
 use Rattle.cb_shelf.specs.Opening.{first_pages, stored_statements}
-use Rattle.cb_sql.proofs.Stepping.{stays, makes_next, flat_more, range_more}
+use Rattle.cb_shelf.proofs.Stepping.{stays, makes_next, flat_more, range_more}
 use Rattle.cb_shelf.proofs.opening.put_store.Goals as goal
 
 pub loop-place-init : goal.loop-place-init

@@ -1,9 +1,9 @@
 -- What holds at each turn of the loops of `put_store`.
 use Rattle.std.proofs.Common.{◌≡◌, Ok}
-use Rattle.cb_sql.specs.Statements.{MakesAll}
+use Rattle.cb_shelf.specs.Statements.{MakesAll}
 use Rattle.cb_shelf.specs.Opening.{first_pages}
-use Rattle.cb_sql.specs.Inside.{Inside}
-use Rattle.cb_sql.specs.declared.fault.ShelfFault.{ShelfFault}
+use Rattle.cb_shelf.specs.Inside.{Inside}
+use Rattle.cb_shelf.specs.declared.fault.ShelfFault.{ShelfFault}
 use Rattle.cb_shelf.proofs.opening.put_store.Given as goal
 
 -- the pages before this one are put

@@ -1,11 +1,11 @@
 -- Goals of `put_tables`.
 use Rattle.std.proofs.Common.{◌≡◌, ◌∙◌, ℕ, Ok, sym, subst, length, List, [], ◌∷◌, ◌++◌, cond}
-use Rattle.cb_sql.specs.Statements.{Statement, MakesAll}
+use Rattle.cb_shelf.specs.Statements.{Statement, MakesAll}
 use Rattle.cb_shelf.specs.LifeRows.{life_row, unserved}
 use Rattle.cb_shelf.specs.Opening.{table_statements, first_pages, mark_row, clear_statements}
-use Rattle.cb_sql.specs.Inside.{Inside}
-use Rattle.cb_sql.specs.declared.fault.ShelfFault.{ShelfFault}
-use Rattle.cb_sql.proofs.Stepping.{makes_then}
+use Rattle.cb_shelf.specs.Inside.{Inside}
+use Rattle.cb_shelf.specs.declared.fault.ShelfFault.{ShelfFault}
+use Rattle.cb_shelf.proofs.Stepping.{makes_then}
 use Rattle.cb_shelf.proofs.opening.put_tables.Goals as goal
 
 pub returns-clause-inside : goal.returns-clause-inside

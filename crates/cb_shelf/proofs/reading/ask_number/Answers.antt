@@ -1,8 +1,8 @@
 -- Goals of `ask_number`.
 use Rattle.std.proofs.Common.{◌≡◌, Err, IfOk, OnErr, refl, rules}
-use Rattle.cb_sql.specs.Asking.{IsRow}
-use Rattle.cb_sql.specs.Inside.{IsNever}
-use Rattle.cb_sql.proofs.Asking.{tells_refused}
+use Rattle.cb_shelf.specs.Asking.{IsRow}
+use Rattle.cb_shelf.specs.Inside.{IsNever}
+use Rattle.cb_shelf.proofs.Asking.{tells_refused}
 use Rattle.cb_shelf.specs.Reading.{number_values, IsNumber}
 use Rattle.cb_shelf.proofs.Answering.{tells_row}
 use Rattle.cb_shelf.proofs.reading.ask_number.Goals as goal

@@ -1,6 +1,6 @@
 -- Goals of `expect_number`.
 use Rattle.std.proofs.Common.{◌≡◌, Err, rules}
-use Rattle.cb_sql.proofs.Asking.{tells_refused}
+use Rattle.cb_shelf.proofs.Asking.{tells_refused}
 use Rattle.cb_shelf.specs.Reading.{question, number_values, IsNumber}
 use Rattle.cb_shelf.proofs.Answering.{tells_agreed, else_weaker}
 use Rattle.cb_shelf.proofs.reading.expect_number.Goals as goal

@@ -1,10 +1,10 @@
 -- Goals of `read_bytes`.
 use Rattle.std.proofs.Common.{◌≡◌, ◌<◌, ◌+◌, Ok, Err, refl, sym, subst, ◌∙◌, ℕ, rules, arith}
-use Rattle.cb_sql.specs.Statements.{part_count}
-use Rattle.cb_sql.specs.Asking.{RepliesElse}
-use Rattle.cb_sql.specs.Inside.{IsNever}
-use Rattle.cb_sql.proofs.Stepping.{stays_any, asks_then}
-use Rattle.cb_sql.proofs.Asking.{tells_nothing, tells_then, tells_stops, tells_judged}
+use Rattle.cb_shelf.specs.Statements.{part_count}
+use Rattle.cb_shelf.specs.Asking.{RepliesElse}
+use Rattle.cb_shelf.specs.Inside.{IsNever}
+use Rattle.cb_shelf.proofs.Stepping.{stays_any, asks_then}
+use Rattle.cb_shelf.proofs.Asking.{tells_nothing, tells_then, tells_stops, tells_judged}
 use Rattle.cb_shelf.specs.Reading.{part_of, IsBytes, HasParts}
 use Rattle.cb_shelf.proofs.Answering.{not_refused, wanting, within_page, parts_more, all_parts}
 use Rattle.cb_shelf.proofs.reading.read_bytes.Goals as goal

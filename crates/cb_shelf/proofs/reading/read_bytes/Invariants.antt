@@ -1,7 +1,7 @@
 -- What holds at each turn of the loops of `read_bytes`.
 use Rattle.std.proofs.Common.{◌≡◌, ◌*◌, Ok, length, min}
-use Rattle.cb_sql.specs.Inside.{Inside, IsAny, IsNever, Tells}
-use Rattle.cb_sql.specs.declared.fault.ShelfFault.{ShelfFault}
+use Rattle.cb_shelf.specs.Inside.{Inside, IsAny, IsNever, Tells}
+use Rattle.cb_shelf.specs.declared.fault.ShelfFault.{ShelfFault}
 use Rattle.cb_shelf.specs.Reading.{HasParts}
 use Rattle.cb_shelf.proofs.reading.read_bytes.Given as goal
 

@@ -1,6 +1,6 @@
 -- Goals of `read_counts`.
 use Rattle.std.proofs.Common.{◌≡◌, Err, rules}
-use Rattle.cb_sql.proofs.Asking.{tells_refused, tells_last}
+use Rattle.cb_shelf.proofs.Asking.{tells_refused, tells_last}
 use Rattle.cb_shelf.specs.Reading.Misfits.{pages, parts}
 use Rattle.cb_shelf.proofs.Questions.{pages_asks, parts_asks}
 use Rattle.cb_shelf.proofs.Answering.{expected_same}

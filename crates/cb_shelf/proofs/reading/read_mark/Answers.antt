@@ -1,8 +1,8 @@
 -- Goals of `read_mark`.
 use Rattle.std.proofs.Common.{◌≡◌, Err, IfOk, OnErr, rules}
-use Rattle.cb_sql.specs.Asking.{IsQuestion, IsRow}
-use Rattle.cb_sql.specs.Inside.{IsNever}
-use Rattle.cb_sql.proofs.Asking.{tells_refused}
+use Rattle.cb_shelf.specs.Asking.{IsQuestion, IsRow}
+use Rattle.cb_shelf.specs.Inside.{IsNever}
+use Rattle.cb_shelf.proofs.Asking.{tells_refused}
 use Rattle.cb_shelf.specs.Reading.{mark_values, IsMark}
 use Rattle.cb_shelf.proofs.Questions.{mark_asks}
 use Rattle.cb_shelf.proofs.Answering.{tells_row, question_is}

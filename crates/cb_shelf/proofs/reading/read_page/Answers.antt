@@ -1,7 +1,7 @@
 -- Goals of `read_page`.
 use Rattle.std.proofs.Common.{◌≡◌, Ok, Err, inl, inr, subst, rules, ℕ}
-use Rattle.cb_sql.proofs.Asking.{tells_then, tells_refused, tells_stops}
-use Rattle.cb_sql.specs.Statements.{part_count}
+use Rattle.cb_shelf.proofs.Asking.{tells_then, tells_refused, tells_stops}
+use Rattle.cb_shelf.specs.Statements.{part_count}
 use Rattle.cb_shelf.specs.Reading.{HasParts, LacksPart}
 use Rattle.cb_shelf.proofs.Answering.{not_refused}
 use Rattle.cb_shelf.proofs.reading.read_page.Goals as goal

@@ -3,9 +3,9 @@ use Rattle.std.proofs.Common.{◌≡◌, ◌<◌, refl, sym, subst, ℕ, Ok, Err
 use Rattle.std.proofs.lemmas.List.Elements.{All-push}
 use Rattle.sqlite.specs.Effect.{Database}
 use Rattle.cb_commit.specs.Stores.{IsStored}
-use Rattle.cb_sql.specs.Inside.{IsNever}
-use Rattle.cb_sql.proofs.Stepping.{stays_any, asks_then, asks_judged}
-use Rattle.cb_sql.proofs.Asking.{tells_nothing, tells_then, tells_stops, tells_judged}
+use Rattle.cb_shelf.specs.Inside.{IsNever}
+use Rattle.cb_shelf.proofs.Stepping.{stays_any, asks_then, asks_judged}
+use Rattle.cb_shelf.proofs.Asking.{tells_nothing, tells_then, tells_stops, tells_judged}
 use Rattle.cb_shelf.specs.Reading.{HasPage, HasPages, HasNoPage}
 use Rattle.cb_shelf.proofs.Answering.{not_refused, pages_more, tells_wanting}
 use Rattle.cb_shelf.proofs.reading.read_pages.Goals as goal

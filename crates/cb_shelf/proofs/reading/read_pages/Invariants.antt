@@ -2,8 +2,8 @@
 use Rattle.std.proofs.Common.{◌≡◌, Ok, length}
 use Rattle.std.specs.List.{All}
 use Rattle.cb_commit.specs.Stores.{IsStored}
-use Rattle.cb_sql.specs.Inside.{Inside, IsAny, IsNever, Tells}
-use Rattle.cb_sql.specs.declared.fault.ShelfFault.{ShelfFault}
+use Rattle.cb_shelf.specs.Inside.{Inside, IsAny, IsNever, Tells}
+use Rattle.cb_shelf.specs.declared.fault.ShelfFault.{ShelfFault}
 use Rattle.cb_shelf.specs.Reading.{HasPages}
 use Rattle.cb_shelf.proofs.reading.read_pages.Given as goal
 

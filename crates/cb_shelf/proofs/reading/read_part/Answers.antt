@@ -2,9 +2,9 @@
 use Rattle.std.proofs.Common.{◌≡◌, Ok, Err, pos, ℕ, List, [], ◌∷◌, rules}
 use Rattle.sqlite.specs.Value.{owned}
 use Rattle.sqlite.specs.declared.types.Value.TheVariants.{Int, Blob}
-use Rattle.cb_sql.specs.Asking.{IsQuestion, IsRow, RepliesRow, RepliesElse}
-use Rattle.cb_sql.specs.Inside.{IsNever}
-use Rattle.cb_sql.proofs.Asking.{tells_refused, tells_judged}
+use Rattle.cb_shelf.specs.Asking.{IsQuestion, IsRow, RepliesRow, RepliesElse}
+use Rattle.cb_shelf.specs.Inside.{IsNever}
+use Rattle.cb_shelf.proofs.Asking.{tells_refused, tells_judged}
 use Rattle.cb_shelf.specs.Reading.{part_of, IsBytes}
 use Rattle.cb_shelf.proofs.Questions.{part_asks}
 use Rattle.cb_shelf.proofs.Answering.{not_refused, part_is, tells_row, tells_wanting}

@@ -1,6 +1,6 @@
 -- Goals of `read_store`.
 use Rattle.std.proofs.Common.{◌≡◌, Ok, Err, rules}
-use Rattle.cb_sql.proofs.Asking.{tells_then, tells_refused, tells_stops}
+use Rattle.cb_shelf.proofs.Asking.{tells_then, tells_refused, tells_stops}
 use Rattle.cb_shelf.specs.Reading.Misfits.{mark, page}
 use Rattle.cb_shelf.proofs.Answering.{not_refused, holds_from}
 use Rattle.cb_shelf.proofs.Telling.{tells_both}

@@ -2,7 +2,7 @@
 use Rattle.std.proofs.Common.{◌≡◌, Err, pos, rules}
 use Rattle.sqlite.specs.Value.{owned}
 use Rattle.sqlite.specs.declared.types.Value.TheVariants.{Int}
-use Rattle.cb_sql.proofs.Asking.{tells_refused}
+use Rattle.cb_shelf.proofs.Asking.{tells_refused}
 use Rattle.cb_shelf.specs.Reading.{version_of, number_values, IsNumber, IsUpTo}
 use Rattle.cb_shelf.proofs.Questions.{version_asks}
 use Rattle.cb_shelf.proofs.Answering.{version_is, tells_same, tells_up_to, else_weaker}

@@ -1,7 +1,7 @@
 -- Goals of `put_batch`.
 use Rattle.std.proofs.Common.{[], ◌∷◌}
-use Rattle.cb_sql.specs.Statements.{pages_statements, mark_statement}
-use Rattle.cb_sql.proofs.Stepping.{makes_then}
+use Rattle.cb_shelf.specs.Statements.{pages_statements, mark_statement}
+use Rattle.cb_shelf.proofs.Stepping.{makes_then}
 use Rattle.cb_shelf.proofs.writing.put_batch.Goals as goal
 
 pub returns-clause-inside : goal.returns-clause-inside

@@ -1,6 +1,6 @@
 -- Goals of `write_batch`.
 use Rattle.std.proofs.Common.{rules}
-use Rattle.cb_sql.proofs.Asking.{never_from}
+use Rattle.cb_shelf.proofs.Asking.{never_from}
 use Rattle.cb_shelf.proofs.writing.write_batch.Goals as goal
 
 pub returns-in_err-commit-clause-fault : goal.returns-in_err-commit-clause-fault

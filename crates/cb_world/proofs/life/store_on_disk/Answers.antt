@@ -1,7 +1,7 @@
 -- Goals of `store_on_disk`.
 use Rattle.std.proofs.Common.{◌≡◌, List, ap, subst, sym, ◌∙◌, ◌+◌}
 use Rattle.cb_commit.specs.History.{FitsInto, applied}
-use Rattle.cb_frame_types.specs.declared.writes.Write.{Write}
+use Rattle.cb_frame.specs.declared.writes.Write.{Write}
 use Rattle.cb_page.specs.Numbers.{max_number}
 use Rattle.cb_world.proofs.DiskStores.{fits_then, number_left, on_ok, replayed_more}
 use Rattle.cb_world.proofs.life.store_on_disk.Goals as goal

@@ -1,7 +1,7 @@
 -- Goals of `draw`.
 use Rattle.std.proofs.Common.{◌≡◌, rules}
 use Rattle.cb_commit.specs.Stores.{zeros}
-use Rattle.cb_event.specs.Drawn.{starts}
+use Rattle.cb_transcript.specs.Drawn.{starts}
 use Rattle.cb_world.proofs.Drawing.{are_drawn}
 use Rattle.cb_world.specs.Draws.{IsOpening}
 use Rattle.cb_world.proofs.schedule.draw.Goals as goal

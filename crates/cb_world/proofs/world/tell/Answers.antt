@@ -2,7 +2,7 @@
 use Rattle.std.proofs.Common.{◌≡◌, ◌∙◌, ◌++◌, ℕ, List, ap, drop, length, map, subst, sym, take}
 use Rattle.cb_commit.specs.declared.commit.Commit.{Commit}
 use Rattle.cb_world.specs.NetState.{NetState}
-use Rattle.cb_world_clients.specs.Packets.{PacketsState}
+use Rattle.cb_world.specs.Packets.{PacketsState}
 use Rattle.cb_server.specs.ServerValue.{ServerValue, server_of}
 use Rattle.cb_transcript.specs.Transcripts.{TranscriptState, committed_name}
 use Rattle.cb_transcript.specs.declared.transcript.TransactionName.{TransactionName}

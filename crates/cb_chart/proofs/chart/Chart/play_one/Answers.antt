@@ -7,7 +7,7 @@ use Rattle.cb_chart.specs.declared.arrows.Sending.{Sending}
 use Rattle.cb_chart.specs.declared.bars.Bar.{Bar}
 use Rattle.cb_chart.specs.declared.bars.ClientCopy.{ClientCopy}
 use Rattle.cb_chart.proofs.Drawing.{marks_more, shows_more}
-use Rattle.cb_event.specs.declared.event.Event.{Event}
+use Rattle.cb_transcript.specs.declared.event.Event.{Event}
 use Rattle.cb_transcript.specs.Transcripts.{TranscriptState}
 use Rattle.cb_transcript.specs.declared.answer.SentPacket.{SentPacket}
 use Rattle.cb_world.specs.Plays.{Steps}

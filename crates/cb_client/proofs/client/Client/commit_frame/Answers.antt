@@ -8,8 +8,8 @@ use Rattle.cb_client.proofs.CommitFits.{commit_fits}
 use Rattle.cb_client.proofs.Writing.{commit_said}
 use Rattle.cb_client_core.specs.ClientState.{IsClient}
 use Rattle.cb_client.specs.CallAnswers.{SaysCommit}
-use Rattle.cb_frame_types.specs.declared.frame.Body.TheVariants.{Commit}
-use Rattle.cb_frame_types.specs.declared.frame.Frame.{Frame}
+use Rattle.cb_frame.specs.declared.frame.Body.TheVariants.{Commit}
+use Rattle.cb_frame.specs.declared.frame.Frame.{Frame}
 use Rattle.cb_client.proofs.client.Client.commit_frame.Goals as goal
 
 pub returns-in_err-writes-clause-nothing : goal.returns-in_err-writes-clause-nothing

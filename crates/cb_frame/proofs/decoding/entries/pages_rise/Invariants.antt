@@ -3,7 +3,7 @@ use Rattle.std.proofs.Common.{◌≡◌, ◌-◌, ◌*◌, length, map, true}
 use Rattle.std.specs.List.{list_all}
 use Rattle.cb_page.specs.Rising.{rises_from, is_rising}
 use Rattle.cb_frame.specs.Checks.{is_write, writes_at}
-use Rattle.cb_frame_types.specs.Grammar.{page_of}
+use Rattle.cb_frame.specs.Grammar.{page_of}
 use Rattle.cb_frame.proofs.decoding.entries.pages_rise.Given as goal
 
 -- what is left decides

@@ -2,8 +2,8 @@
 use Rattle.std.proofs.Common.{rules, ◌≡◌, ◌<◌, ◌-◌, List, [], ◌∷◌, ◌++◌, drop, length, reverse, subst, sym}
 use Rattle.std.specs.List.{AllByRecursion}
 use Rattle.std.specs.Option.{option_to_list}
-use Rattle.cb_frame_types.specs.Grammar.{FitsSome}
-use Rattle.cb_frame_types.specs.declared.frame.Frame.{Frame}
+use Rattle.cb_frame.specs.Grammar.{FitsSome}
+use Rattle.cb_frame.specs.declared.frame.Frame.{Frame}
 use Rattle.cb_handle.proofs.Kept.{others_left}
 use Rattle.cb_handle.proofs.said.Said.remove_oldest.Goals as goal
 

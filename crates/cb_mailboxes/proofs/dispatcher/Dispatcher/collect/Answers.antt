@@ -1,7 +1,7 @@
 -- Goals of `Dispatcher::collect`.
 use Rattle.std.proofs.Common.{◌≡◌, ◌<◌, ℕ, length, ◌∙◌, ap, slice_get, List, sym, subst}
 use Rattle.std.specs.Prelude.{IfSome}
-use Rattle.cb_frame_types.specs.declared.frame.Frame.{Frame}
+use Rattle.cb_frame.specs.declared.frame.Frame.{Frame}
 use Rattle.cb_mailboxes.proofs.Dispatching.{by_server, on_err, unchanged}
 use Rattle.cb_mailboxes.specs.Dispatching.{DispatcherState, IsUnchanged, mailbox_of, server_of, without_oldest}
 use Rattle.cb_mailboxes.specs.Mailboxes.{current_in}

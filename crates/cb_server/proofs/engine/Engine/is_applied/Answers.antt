@@ -1,6 +1,6 @@
 -- Goals of `Engine::is_applied`.
 use Rattle.std.proofs.Common.{◌∙◌, List, ap, subst, sym}
-use Rattle.cb_frame_types.specs.declared.writes.Write.{Write}
+use Rattle.cb_frame.specs.declared.writes.Write.{Write}
 use Rattle.cb_links.specs.declared.sessions.Standing.{Standing}
 use Rattle.cb_outbox.specs.Messages.{page_writes}
 use Rattle.cb_protocol.specs.ServerMessages.{commit_allowed}

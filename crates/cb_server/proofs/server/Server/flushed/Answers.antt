@@ -1,7 +1,7 @@
 -- Goals of `Server::flushed`.
 use Rattle.std.proofs.Common.{◌≡◌, true, refl, sym, ap, arith, subst}
 use Rattle.std.specs.List.{AllByRecursion}
-use Rattle.cb_frame_types.specs.Grammar.{Fits}
+use Rattle.cb_frame.specs.Grammar.{Fits}
 use Rattle.cb_outbox.specs.Messages.{messages_of}
 use Rattle.cb_protocol.specs.AnyMessages.{ReachesDisk}
 use Rattle.cb_protocol.specs.Flush.{can_flush}

@@ -2,7 +2,7 @@
 use Rattle.std.proofs.Common.{◌≤◌, sym, subst}
 use Rattle.std.specs.List.{AllByRecursion}
 use Rattle.std.specs.Vec.{vec_capacity}
-use Rattle.cb_frame_types.specs.Grammar.{Fits}
+use Rattle.cb_frame.specs.Grammar.{Fits}
 use Rattle.cb_server.specs.ServerValue.{ServerValue, most_frames, server_of}
 use Rattle.cb_server.specs.Taking.{input_of}
 use Rattle.cb_server.proofs.Serving.{fits_said, input_taken, ready, rests, said_room}

@@ -1,6 +1,6 @@
 -- Goals of `Shelf::open`.
 use Rattle.std.proofs.Common.{◌≡◌, refl}
-use Rattle.cb_sql.specs.declared.fault.ShelfFault.TheVariants.{Shape}
+use Rattle.cb_shelf.specs.declared.fault.ShelfFault.TheVariants.{Shape}
 use Rattle.cb_shelf.proofs.shelf.Shelf.open.Goals as goal
 
 pub returns-in-Err-clause-shape : goal.returns-in-Err-clause-shape

@@ -12,7 +12,7 @@ use Rattle.cb_server.specs.ServerValue.{ServerValue, commits_of}
 use Rattle.cb_station.specs.Moves.{collected}
 use Rattle.cb_station.proofs.Remembering.{still_forgotten}
 use Rattle.std.specs.Prelude.{IfSome}
-use Rattle.cb_frame_types.specs.declared.frame.Frame.{Frame}
+use Rattle.cb_frame.specs.declared.frame.Frame.{Frame}
 use Rattle.cb_mailboxes.specs.Mail.{IsMailFor}
 use Rattle.cb_station.proofs.Bringing.{brings}
 use Rattle.cb_station.specs.Copies.{BringsCopy}

@@ -1,6 +1,6 @@
 -- Goals of `Station::commit`.
 use Rattle.std.proofs.Common.{rules, Err, ◌++◌, ◌∷◌, [], ◌≡◌, List, true, false, is_err, refl, sym, ap, ◌∙◌, subst}
-use Rattle.cb_frame_types.specs.Grammar.{Fits}
+use Rattle.cb_frame.specs.Grammar.{Fits}
 use Rattle.cb_hands.specs.Joined.{Follow, IsHeld}
 use Rattle.cb_hands.specs.declared.entry.Entry.{Entry}
 use Rattle.cb_mailboxes.specs.Dispatching.{Everybody, Posts}

@@ -1,6 +1,6 @@
 -- Goals of `Station::commit_owned`.
 use Rattle.std.proofs.Common.{◌++◌, ◌∷◌, [], List, refl, sym, ap, ◌∙◌, subst}
-use Rattle.cb_frame_types.specs.Grammar.{Fits}
+use Rattle.cb_frame.specs.Grammar.{Fits}
 use Rattle.cb_hands.specs.Joined.{Follow, IsHeld}
 use Rattle.cb_hands.specs.declared.entry.Entry.{Entry}
 use Rattle.cb_mailboxes.specs.Dispatching.{Everybody, Posts}

@@ -1,8 +1,8 @@
 -- Goals of `entry_of`.
 use Rattle.std.proofs.Common.{List, map, sym, ◌∙◌, ap}
-use Rattle.cb_frame_types.specs.Grammar.{page_of}
-use Rattle.cb_frame_types.specs.declared.frame.Body.{Body}
-use Rattle.cb_frame_types.specs.declared.writes.Write.{Write}
+use Rattle.cb_frame.specs.Grammar.{page_of}
+use Rattle.cb_frame.specs.declared.frame.Body.{Body}
+use Rattle.cb_frame.specs.declared.writes.Write.{Write}
 use Rattle.cb_station.specs.Commits.{txn_in, writes_in}
 use Rattle.cb_station.proofs.station.committing.entry_of.Goals as goal
 

@@ -1,7 +1,7 @@
 -- Goals of `Worker::collect`.
 use Rattle.std.proofs.Common.{◌≡◌, ◌∙◌, Some, None, Ok, Result, ap, refl, subst}
 use Rattle.std.proofs.Common.{Option}
-use Rattle.cb_frame_types.specs.declared.frame.Frame.{Frame}
+use Rattle.cb_frame.specs.declared.frame.Frame.{Frame}
 use Rattle.cb_station.specs.declared.office_fault.OfficeFault.{OfficeFault}
 use Rattle.cb_worker.proofs.Turning.{collects_some}
 use Rattle.cb_worker.specs.Calls.{Collected}

@@ -1,7 +1,7 @@
 -- Goals of `Worker::drop_open`.
 use Rattle.std.proofs.Common.{◌≡◌, List, [], refl, subst, sym}
 use Rattle.cb_client.specs.ByTable.{Calls, over}
-use Rattle.cb_frame_types.specs.declared.frame.Frame.{Frame}
+use Rattle.cb_frame.specs.declared.frame.Frame.{Frame}
 use Rattle.cb_outbox.specs.Messages.{messages_of}
 use Rattle.cb_protocol.specs.Answers.{AnsweredOk}
 use Rattle.cb_protocol.specs.ClientCalls.{CallDrop}

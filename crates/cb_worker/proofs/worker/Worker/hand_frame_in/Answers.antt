@@ -1,6 +1,6 @@
 -- Goals of `Worker::hand_frame_in`.
 use Rattle.std.proofs.Common.{ℕ, Result, refl, subst}
-use Rattle.cb_frame_types.specs.declared.frame.Frame.{Frame}
+use Rattle.cb_frame.specs.declared.frame.Frame.{Frame}
 use Rattle.cb_station.specs.Commits.{answer_of}
 use Rattle.cb_station.specs.declared.office_fault.OfficeFault.{OfficeFault}
 use Rattle.cb_worker.proofs.Owning.{commits_owned}

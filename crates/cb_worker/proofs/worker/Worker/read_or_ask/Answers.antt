@@ -1,6 +1,6 @@
 -- Goals of `Worker::read_or_ask`.
 use Rattle.std.proofs.Common.{◌≡◌, ◌∙◌, true, false, rules, Ok, None, List, [], inr, ap, refl, sym}
-use Rattle.cb_frame_types.specs.declared.frame.Frame.{Frame}
+use Rattle.cb_frame.specs.declared.frame.Frame.{Frame}
 use Rattle.cb_outbox.specs.Messages.{messages_of}
 use Rattle.cb_client.specs.CallAnswers.{AnswersRead, after_read}
 use Rattle.cb_client.specs.declared.answers.ReadAnswer.TheVariants as read

@@ -2,7 +2,7 @@
 use Rattle.std.proofs.Common.{◌≡◌, length, take, ap, subst, ◌∙◌, List, arith}
 use Rattle.std.proofs.lemmas.List.{take_more}
 use Rattle.std.proofs.Math.Seq.{take-length}
-use Rattle.cb_event.specs.declared.lives_event.LivesEvent.{LivesEvent}
+use Rattle.cb_transcript.specs.declared.lives_event.LivesEvent.{LivesEvent}
 use Rattle.cb_world.proofs.PlayingLives.{played_end, played_more, played_none}
 use Rattle.cb_world.proofs.lives.Lives.play.Goals as goal
 use Rattle.cb_world.specs.LivesPlays.{LivesPlayed}

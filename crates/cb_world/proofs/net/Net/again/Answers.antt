@@ -1,7 +1,7 @@
 -- Goals of `Net::again`.
 use Rattle.std.proofs.Common.{subst, IfOk}
 use Rattle.std.specs.List.{AllByRecursion}
-use Rattle.cb_frame_types.specs.Grammar.{Fits}
+use Rattle.cb_frame.specs.Grammar.{Fits}
 use Rattle.cb_page.specs.Bounds.{Bounds}
 use Rattle.cb_protocol.specs.World.{ServerAgain}
 use Rattle.cb_transcript.specs.declared.answer.AnswerWord.TheVariants as word

@@ -2,13 +2,13 @@
 use Rattle.std.proofs.Common.{subst, IfOk, List, length, ◌<◌}
 use Rattle.std.specs.Prelude.{OnErr}
 use Rattle.std.proofs.lemmas.Result.{on_err_weaker}
-use Rattle.cb_frame_types.specs.declared.frame.Frame.{Frame}
+use Rattle.cb_frame.specs.declared.frame.Frame.{Frame}
 use Rattle.cb_protocol.specs.World.{ClientCalls}
 use Rattle.cb_transcript.specs.ProtocolEvents.{call_of, word_of}
 use Rattle.cb_world.specs.NetMoves.{IsAccepted, NetBecomes}
 use Rattle.cb_world.specs.NetState.{NetState}
 use Rattle.cb_world.proofs.Nets.{accepts_call, said_by_accepted, world_clients_become, with_sends}
-use Rattle.cb_world_clients.proofs.Replying.{on_any_err}
+use Rattle.cb_world.proofs.Replying.{on_any_err}
 use Rattle.cb_world.proofs.net.Net.call.Goals as goal
 
 pub returns-clause-ok : goal.returns-clause-ok

@@ -2,12 +2,12 @@
 use Rattle.std.proofs.Common.{subst, sym, IfOk, rules}
 use Rattle.std.specs.Prelude.{OnErr}
 use Rattle.std.proofs.lemmas.Result.{IfOk-weaker}
-use Rattle.cb_event.specs.declared.event.Event.{Event as Happening}
+use Rattle.cb_transcript.specs.declared.event.Event.{Event as Happening}
 use Rattle.cb_protocol.specs.World.{Event, FlushTo}
 use Rattle.cb_transcript.specs.ProtocolEvents.{event_of}
 use Rattle.cb_world.specs.NetMoves.{FlushesTo, IsAccepted, NetBecomes}
 use Rattle.cb_world.proofs.Nets.{accepts_again, accepts_flush, accepts_flush_to, flushes_to}
-use Rattle.cb_world_clients.proofs.Replying.{on_any_err}
+use Rattle.cb_world.proofs.Replying.{on_any_err}
 use Rattle.cb_world.proofs.net.Net.event.Goals as goal
 
 pub returns-in-Take-clause-ok : goal.returns-in-Take-clause-ok

@@ -1,7 +1,7 @@
 -- Goals of `Net::flush_to`.
 use Rattle.std.proofs.Common.{◌≡◌, subst, sym, ap, IfOk}
 use Rattle.std.specs.List.{AllByRecursion}
-use Rattle.cb_frame_types.specs.Grammar.{Fits}
+use Rattle.cb_frame.specs.Grammar.{Fits}
 use Rattle.cb_page.specs.Bounds.{Bounds}
 use Rattle.std.specs.Prelude.{ℕ, true, false}
 use Rattle.cb_protocol.specs.Flush.{can_flush}

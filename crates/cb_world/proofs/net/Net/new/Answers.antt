@@ -1,8 +1,8 @@
 -- Goals of `Net::new`.
 use Rattle.std.proofs.Common.{[], subst, sym}
 use Rattle.cb_server_state.specs.States.{opening_of}
-use Rattle.cb_world_clients.specs.Packets.{PacketsState}
-use Rattle.cb_world_clients.specs.Wire.{AllSpell}
+use Rattle.cb_world.specs.Packets.{PacketsState}
+use Rattle.cb_world.specs.Wire.{AllSpell}
 use Rattle.cb_world.proofs.net.Net.new.Goals as goal
 
 pub returns-clause-represents : goal.returns-clause-represents

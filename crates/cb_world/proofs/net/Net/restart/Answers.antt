@@ -7,7 +7,7 @@ use Rattle.cb_transcript.specs.declared.answer.Answer.{Answer}
 use Rattle.cb_world.specs.NetMoves.{IsAccepted, NetBecomes}
 use Rattle.cb_world.specs.NetState.{NetState}
 use Rattle.cb_world.proofs.Nets.{accepts_restart, silent_world_clients_become}
-use Rattle.cb_world_clients.proofs.Replying.{on_any_err}
+use Rattle.cb_world.proofs.Replying.{on_any_err}
 use Rattle.cb_world.proofs.net.Net.restart.Goals as goal
 
 pub returns-clause-ok : goal.returns-clause-ok

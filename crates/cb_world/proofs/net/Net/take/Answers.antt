@@ -1,15 +1,15 @@
 -- Goals of `Net::take`.
 use Rattle.std.proofs.Common.{subst, ap}
 use Rattle.std.specs.Prelude.{OnErr, Option}
-use Rattle.cb_frame_types.specs.declared.frame.Frame.{Frame}
-use Rattle.cb_world_clients.specs.Packets.{IsAt}
+use Rattle.cb_frame.specs.declared.frame.Frame.{Frame}
+use Rattle.cb_world.specs.Packets.{IsAt}
 use Rattle.cb_protocol.specs.World.{TakePacket}
 use Rattle.cb_transcript.specs.ProtocolEvents.{word_of}
 use Rattle.cb_transcript.specs.declared.answer.Answer.{Answer}
 use Rattle.cb_world.specs.NetMoves.{IsAccepted, NetBecomes}
 use Rattle.cb_world.specs.NetState.{NetState}
 use Rattle.cb_world.proofs.Nets.{accepts_frame, accepts_take, no_packet_becomes}
-use Rattle.cb_world_clients.proofs.Replying.{on_any_err}
+use Rattle.cb_world.proofs.Replying.{on_any_err}
 use Rattle.cb_world.proofs.net.Net.take.Goals as goal
 
 pub returns-in-None-clause-ok : goal.returns-in-None-clause-ok

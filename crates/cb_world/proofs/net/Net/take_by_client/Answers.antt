@@ -1,6 +1,6 @@
 -- Goals of `Net::take_by_client`.
 use Rattle.std.proofs.Common.{subst, sym, ◌∙◌, IfOk}
-use Rattle.cb_world_clients.specs.Packets.{IsFrameAt}
+use Rattle.cb_world.specs.Packets.{IsFrameAt}
 use Rattle.cb_protocol.specs.World.{TakePacket}
 use Rattle.cb_transcript.specs.declared.answer.AnswerWord.TheVariants as word
 use Rattle.cb_world.specs.NetMoves.{NetBecomes}

@@ -1,9 +1,9 @@
 -- Goals of `Net::take_by_server`.
 use Rattle.std.proofs.Common.{subst, sym, ap, ◌∙◌, IfOk}
 use Rattle.std.specs.List.{AllByRecursion}
-use Rattle.cb_frame_types.specs.Grammar.{Fits}
+use Rattle.cb_frame.specs.Grammar.{Fits}
 use Rattle.cb_page.specs.Bounds.{Bounds}
-use Rattle.cb_world_clients.specs.Packets.{IsFrameAt}
+use Rattle.cb_world.specs.Packets.{IsFrameAt}
 use Rattle.cb_protocol.specs.World.{TakePacket}
 use Rattle.cb_transcript.specs.ProtocolEvents.{word_of}
 use Rattle.cb_transcript.specs.declared.answer.AnswerWord.TheVariants as word

@@ -2,7 +2,7 @@
 use Rattle.std.proofs.Common.{◌≡◌, length, take, ap, subst, ◌∙◌, List, arith}
 use Rattle.std.proofs.lemmas.List.{take_more}
 use Rattle.std.proofs.Math.Seq.{take-length}
-use Rattle.cb_event.specs.declared.event.Event.{Event}
+use Rattle.cb_transcript.specs.declared.event.Event.{Event}
 use Rattle.cb_world.specs.Plays.{Played}
 use Rattle.cb_world.proofs.Playing.{played_none, played_more, played_end}
 use Rattle.cb_world.proofs.world.World.play.Goals as goal

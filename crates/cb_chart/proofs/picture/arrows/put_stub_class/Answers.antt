@@ -1,0 +1,5 @@
+-- Goals of `put_stub_class`.
+use Rattle.cb_chart.proofs.picture.arrows.put_stub_class.Goals as goal
+
+pub returns : goal.returns
+returns g c = rw (← c.family-class.ensures) c.write.ensures.bytes

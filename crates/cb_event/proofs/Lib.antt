@@ -1,3 +1,0 @@
-mod LivesLemmas
-mod PiecesLemmas
-mod TextLemmas

@@ -1,6 +1,0 @@
--- Goals of `Drawing::new`.
-use Rattle.std.proofs.Common.{rules}
-use Rattle.cb_event.proofs.drawing.Drawing.new.Goals as goal
-
-pub returns : goal.returns
-returns c = search rules

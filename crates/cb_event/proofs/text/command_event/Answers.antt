@@ -1,6 +1,0 @@
--- Goals of `command_event`.
-use Rattle.std.proofs.Common.{rules}
-use Rattle.cb_event.proofs.text.command_event.Goals as goal
-
-pub returns : goal.returns
-returns c = search rules

@@ -1,6 +1,0 @@
--- Goals of `lives_speak_to_their_own`.
-use Rattle.cb_lives.proofs.LivesStand.{events_send}
-use Rattle.cb_lives.proofs.lives_speak_to_their_own.Goals as goal
-
-pub returns : goal.returns
-returns c = record { sends = events_send }

@@ -1,3 +1,0 @@
-pub mod LifeLaws
-pub mod LivesEvents
-pub mod Outcomes

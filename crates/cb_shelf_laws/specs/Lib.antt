@@ -1,0 +1,5 @@
+pub mod Tables
+pub mod Rows
+pub mod Laws
+pub mod LifeLaws
+pub mod Stops

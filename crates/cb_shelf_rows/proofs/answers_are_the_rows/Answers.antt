@@ -1,6 +1,0 @@
--- Goals of `answers_are_the_rows`.
-use Rattle.cb_shelf_rows.proofs.Answering.{answered_rows}
-use Rattle.cb_shelf_rows.proofs.answers_are_the_rows.Goals as goal
-
-pub returns : goal.returns
-returns c = record { law = answered_rows }

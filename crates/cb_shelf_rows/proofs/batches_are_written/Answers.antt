@@ -1,6 +1,0 @@
--- Goals of `batches_are_written`.
-use Rattle.cb_shelf_rows.proofs.Paging.{writes_batch}
-use Rattle.cb_shelf_rows.proofs.batches_are_written.Goals as goal
-
-pub returns : goal.returns
-returns g c = record { law = λ older. writes_batch older g.S.Store }

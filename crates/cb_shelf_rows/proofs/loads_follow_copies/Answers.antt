@@ -1,6 +1,0 @@
--- Goals of `loads_follow_copies`.
-use Rattle.cb_shelf_rows.proofs.Following.{load_follows_copy}
-use Rattle.cb_shelf_rows.proofs.loads_follow_copies.Goals as goal
-
-pub returns : goal.returns
-returns g c = record { law = load_follows_copy g.S.Store }

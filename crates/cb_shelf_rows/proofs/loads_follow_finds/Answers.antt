@@ -1,6 +1,0 @@
--- Goals of `loads_follow_finds`.
-use Rattle.cb_shelf_rows.proofs.Following.{load_follows_find}
-use Rattle.cb_shelf_rows.proofs.loads_follow_finds.Goals as goal
-
-pub returns : goal.returns
-returns g c = record { law = load_follows_find g.S.Store }

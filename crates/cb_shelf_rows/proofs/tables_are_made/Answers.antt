@@ -1,6 +1,0 @@
--- Goals of `tables_are_made`.
-use Rattle.cb_shelf_rows.proofs.Creating.{tables_made}
-use Rattle.cb_shelf_rows.proofs.tables_are_made.Goals as goal
-
-pub returns : goal.returns
-returns g c = record { law = tables_made g.S.Store }

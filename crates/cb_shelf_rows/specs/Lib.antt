@@ -1,4 +1,0 @@
-pub mod Tables
-pub mod Rows
-pub mod Laws
-pub mod LifeLaws

@@ -1,6 +1,0 @@
--- Goals of `loads_follow_commits`.
-use Rattle.cb_shelf_stops.proofs.Stopping.{loads_follow}
-use Rattle.cb_shelf_stops.proofs.loads_follow_commits.Goals as goal
-
-pub returns : goal.returns
-returns g c = record { law = loads_follow g.S.Store }

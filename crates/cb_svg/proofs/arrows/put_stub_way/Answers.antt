@@ -1,5 +1,0 @@
--- Goals of `put_stub_way`.
-use Rattle.cb_svg.proofs.arrows.put_stub_way.Goals as goal
-
-pub returns : goal.returns
-returns g c = rw (← c.stub_end-to.ensures.value, ← c.source-from.ensures.value, ← c.row-top.ensures.value) c.write.ensures.bytes

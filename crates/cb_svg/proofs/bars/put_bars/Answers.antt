@@ -1,9 +1,0 @@
--- Goals of `put_bars`.
-use Rattle.cb_svg.specs.Signs.{bar_text}
-use Rattle.cb_svg.proofs.Printing.{prints_more}
-use Rattle.cb_svg.proofs.bars.put_bars.Goals as goal
-
-pub loop-placed-preserved : goal.loop-placed-preserved
-loop-placed-preserved g c =
-    prints_more (bar_text c.args.layout.now) _ _ _ c.bars-placed-items.result.now c.loop-placed.placed-index c.placed-item.result c.loop-placed-test.true c.placed-item.is
-    c.loop-placed.invariant c.in_ok-put_bar.ensures

@@ -1,3 +1,0 @@
-pub mod Layouts
-pub mod Signs
-pub mod Pictures

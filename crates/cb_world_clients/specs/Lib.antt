@@ -1,4 +1,0 @@
-pub mod ByWorld
-pub mod Packets
-pub mod WorldClientsState
-pub mod Wire
