@@ -58,13 +58,13 @@ lets_go v page lt sizes =
       references = refers_none v.pool.calls page v.pool.fixed;
     }
 
-pub takes_permission : (v : CacheState) (page txn grant : ℕ) → page < v.limits.pages → HaveSizes v
-    → DoesInTxn txn v (ChangeCache (TakePermission page grant) ∷ [])
+pub takes_permission : (v : CacheState) (page txn : ℕ) → page < v.limits.pages → HaveSizes v
+    → DoesInTxn txn v (ChangeCache (TakePermission page) ∷ [])
     (record v {
       rows = slice_set v.rows page (record (copy_at v page) { tag = Some txn });
       may_write = slice_set v.may_write page true;
     })
-takes_permission v page txn grant lt sizes =
+takes_permission v page txn lt sizes =
     let below : page < length v.rows = let r = sizes.rows in omega arith in
     let permitted : page < length v.may_write = let r = sizes.may_write in omega arith in
     let new : PageCopy = record (copy_at v page) { tag = Some txn } in

@@ -284,8 +284,8 @@ impl<Q: Chooser> Cache<Q> {
     pub fn take_permission(&mut self, page: PageNo, txn: TxnNo)
         requires held { is_some (copy_at self.old page).held ≡ true }
         requires page { page < self.old.limits.pages }
-        ensures by_table { (grant : ℕ)
-            → DoesInTxn txn self.old (ChangeCache (TakePermission page grant) ∷ []) self.new }
+        ensures by_table { DoesInTxn txn self.old (ChangeCache (TakePermission page) ∷ [])
+            self.new }
         ensures limits { self.new.limits ≡ self.old.limits }
     {
         let copy = self.table.at(page);

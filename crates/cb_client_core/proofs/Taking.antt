@@ -438,8 +438,8 @@ may_write_ignored v txn p g welcomed other = takes v v (MayWrite txn p g) [] [] 
 })
 
 pub may_write_taken : (v : ClientState) (txn p g : ℕ) (copies : CacheState) → v.welcomed ≡ true → answers_ask v txn p g ≡ true
-    → DoesInTxn txn v.copies (ChangeCache (TakePermission p g) ∷ []) copies → Takes v (MayWrite txn p g) [] (record v { copies = copies; ask = asks.Nothing })
-may_write_taken v txn p g copies welcomed answers d = takes v (record v { copies = copies; ask = asks.Nothing }) (MayWrite txn p g) (SetAsk NoAsk ∷ ChangeCache (TakePermission p g) ∷ []) [] welcomed (λ e. cc) (λ ops. tt) (record {
+    → DoesInTxn txn v.copies (ChangeCache (TakePermission p) ∷ []) copies → Takes v (MayWrite txn p g) [] (record v { copies = copies; ask = asks.Nothing })
+may_write_taken v txn p g copies welcomed answers d = takes v (record v { copies = copies; ask = asks.Nothing }) (MayWrite txn p g) (SetAsk NoAsk ∷ ChangeCache (TakePermission p) ∷ []) [] welcomed (λ e. cc) (λ ops. tt) (record {
   table = λ ops. rw answers refl;
   said = refl;
   after = λ ops. d.becomes (record (locks_with v.locks (base_of v ops)) { ask = NoAsk }) same;
@@ -453,7 +453,7 @@ may_write_taken v txn p g copies welcomed answers d = takes v (record v { copies
     same = grind (arith, nat_tests)
 
 pub may_write_keeps : (v : ClientState) (txn p g : ℕ) (copies : CacheState) → IsClient v → v.welcomed ≡ true → BodyFits (limits_at v) (MayWrite txn p g) → answers_ask v txn p g ≡ true
-    → DoesInTxn txn v.copies (ChangeCache (TakePermission p g) ∷ []) copies → IsClient (record v { copies = copies; ask = asks.Nothing })
+    → DoesInTxn txn v.copies (ChangeCache (TakePermission p) ∷ []) copies → IsClient (record v { copies = copies; ask = asks.Nothing })
 may_write_keeps v txn p g copies is welcomed fits answers d =
     let new : ClientState = record v { copies = copies; ask = asks.Nothing } in
     let some : Client = record new_client { cache = record new_client.cache { number = txn } } in

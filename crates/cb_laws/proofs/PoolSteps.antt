@@ -173,7 +173,7 @@ hears_room : (L : Limits) (k : Client) (y : Body) (o : Option ℕ) → Roomy L k
 hears_room L k (Granted p g v b) o h n = absurd (n p g v b refl)
 hears_room L k (MayWrite t p g) o h n = go (of_open_txn k t && asks_to_write k.ask p && is_exactly (k.cache.held p) g)
   where
-    go : (r : Bool) → AllRoom L k (if r then SetAsk NoAsk ∷ ChangeCache (TakePermission p g) ∷ [] else [])
+    go : (r : Bool) → AllRoom L k (if r then SetAsk NoAsk ∷ ChangeCache (TakePermission p) ∷ [] else [])
     go true = (tt, (tt, tt))
     go false = tt
 hears_room L k (Callback p g) o h n = go (is_exactly (k.cache.held p) g) (k.cache.locked p)

@@ -128,7 +128,7 @@ pub rest_hears : (L : Limits) (k : Client) (y : Body) (let_go : Option ℕ) → 
 rest_hears L k (Granted p g v b) let_go a = rest_granted k p g v b let_go (k.cache.held p)
 rest_hears L k (MayWrite t p g) let_go a = go (of_open_txn k t && asks_to_write k.ask p && is_exactly (k.cache.held p) g)
   where
-    go : (r : Bool) → Rests (if r then SetAsk NoAsk ∷ ChangeCache (TakePermission p g) ∷ [] else [])
+    go : (r : Bool) → Rests (if r then SetAsk NoAsk ∷ ChangeCache (TakePermission p) ∷ [] else [])
     go true = (tt, tt)
     go false = tt
 rest_hears L k (Callback p g) let_go a = go (is_exactly (k.cache.held p) g) (k.cache.locked p)

@@ -22,7 +22,7 @@ marks_changed c s t k Came TakeWelcome h a r = record { mark = r.mark; marked = 
 marks_changed c s t k Came Begin h a r = record { mark = r.mark; marked = r.marked }
 marks_changed c s t k Came (Lock p) h a r = record { mark = r.mark; marked = r.marked }
 marks_changed c s t k Came (Read p b) h a r = record { mark = r.mark; marked = r.marked }
-marks_changed c s t k Came (TakePermission p g) h a r = record { mark = r.mark; marked = r.marked }
+marks_changed c s t k Came (TakePermission p) h a r = record { mark = r.mark; marked = r.marked }
 marks_changed c s t k Came (WriteBytes p b) h a r = record { mark = λ q e f. grind (arith, r.mark q e); marked = λ q f. grind (arith, r.marked q) }
 marks_changed c s t k Came Finish h a r = record { mark = r.mark; marked = r.marked }
 marks_changed c s t k Came Abandon h a r = record { mark = λ q e f. absurd cc; marked = λ q f. absurd cc }

@@ -18,7 +18,7 @@ good_welcome c s t k h = grind arith
 pub good_lock : (c : ℕ) (s : Store) (t : Session) (k : Cache) (p : ℕ) (b : Bytes) → SessionFacts c s t k → k.welcomed ≡ true → k.content p ≡ Some b → SessionFacts c s t (cache_after s.keep_write k (Lock p))
 good_lock c s t k p b h w e = grind arith
 
-pub good_permission : (c : ℕ) (s : Store) (t : Session) (k : Cache) (p g : ℕ) → SessionFacts c s t k → k.welcomed ≡ true → k.status ≡ Open → MessageFact c s t k (MayWrite k.number p g) → k.held p ≡ Some g → SessionFacts c s t (cache_after s.keep_write k (TakePermission p g))
+pub good_permission : (c : ℕ) (s : Store) (t : Session) (k : Cache) (p g : ℕ) → SessionFacts c s t k → k.welcomed ≡ true → k.status ≡ Open → MessageFact c s t k (MayWrite k.number p g) → k.held p ≡ Some g → SessionFacts c s t (cache_after s.keep_write k (TakePermission p))
 good_permission c s t k p g h w o n e = grind arith
 
 pub good_put : (c : ℕ) (s : Store) (t : Session) (k : Cache) (p : ℕ) (b o : Bytes) → SessionFacts c s t k → k.welcomed ≡ true → k.status ≡ Open → k.may_write p ≡ true → k.locked p ≡ true → k.content p ≡ Some o → SessionFacts c s t (cache_after s.keep_write k (WriteBytes p b))

@@ -265,7 +265,7 @@ hears_fit : (L : Limits) (Came : Body → Type 0) (k : Client) (y : Body) (let_g
 hears_fit L Came k (Granted p g v b) let_go c = granted_fit L Came k p g v b let_go (k.cache.held p)
 hears_fit L Came k (MayWrite t p g) let_go c = go (of_open_txn k t && asks_to_write k.ask p && is_exactly (k.cache.held p) g)
   where
-    go : (r : Bool) → AllFit L Came k (if r then SetAsk NoAsk ∷ ChangeCache (TakePermission p g) ∷ [] else [])
+    go : (r : Bool) → AllFit L Came k (if r then SetAsk NoAsk ∷ ChangeCache (TakePermission p) ∷ [] else [])
     go true = (tt, (refl, tt))
     go false = tt
 hears_fit L Came k (Callback p g) let_go c = go (is_exactly (k.cache.held p) g) (k.cache.locked p)

@@ -65,7 +65,7 @@ tidy_after L k (ChangeCache TakeWelcome) h f = grind arith
 tidy_after L k (ChangeCache Begin) h f = grind arith
 tidy_after L k (ChangeCache (Lock p)) h f = grind arith
 tidy_after L k (ChangeCache (Read p b)) h f = grind arith
-tidy_after L k (ChangeCache (TakePermission p g)) h f = grind arith
+tidy_after L k (ChangeCache (TakePermission p)) h f = grind arith
 tidy_after L k (ChangeCache (WriteBytes p b)) h f = grind arith
 tidy_after L k (ChangeCache Finish) h f = grind arith
 tidy_after L k (ChangeCache Abandon) h f = absurd f
@@ -330,8 +330,8 @@ tidy_downgraded L k p g t h = go (is_exactly (k.cache.held p) g) (k.cache.may_wr
     go true true true = tidy_all L k (MarkDueDowngrade p (record { grant = g; tag = t }) ∷ Say (InUse k.cache.number p g) ∷ []) h (tt, (tt, tt))
     go true true false = tidy_all L k (ChangeCache (YieldPermission p) ∷ Say (Downgraded p g t) ∷ []) h (tt, (tt, tt))
 
-tidy_may_write : (L : Limits) (k : Client) (p g : ℕ) (r : Bool) → ClientKeeps L k → ClientKeeps L (client_after L.keep_write k (if r then SetAsk NoAsk ∷ ChangeCache (TakePermission p g) ∷ [] else []))
-tidy_may_write L k p g true h = tidy_all L k (SetAsk NoAsk ∷ ChangeCache (TakePermission p g) ∷ []) h (tt, (tt, tt))
+tidy_may_write : (L : Limits) (k : Client) (p g : ℕ) (r : Bool) → ClientKeeps L k → ClientKeeps L (client_after L.keep_write k (if r then SetAsk NoAsk ∷ ChangeCache (TakePermission p) ∷ [] else []))
+tidy_may_write L k p g true h = tidy_all L k (SetAsk NoAsk ∷ ChangeCache (TakePermission p) ∷ []) h (tt, (tt, tt))
 tidy_may_write L k p g false h = h
 
 -- the choice, where a welcomed client takes the message

@@ -327,7 +327,7 @@ small_hears : (L : Limits) (k : Client) (b : Body) (let_go : Option ℕ) → Cli
 small_hears L k (Granted p g v b) let_go t h f = small_granted L k p g v b let_go t h f
 small_hears L k (MayWrite x p g) let_go t h f = go (of_open_txn k x && asks_to_write k.ask p && is_exactly (k.cache.held p) g)
   where
-    go : (r : Bool) → AllSmall L k (if r then SetAsk NoAsk ∷ ChangeCache (TakePermission p g) ∷ [] else [])
+    go : (r : Bool) → AllSmall L k (if r then SetAsk NoAsk ∷ ChangeCache (TakePermission p) ∷ [] else [])
     go true = (tt, (tt, tt))
     go false = tt
 small_hears L k (Callback p g) let_go t h f = small_called L k p g t h f.0 f.1

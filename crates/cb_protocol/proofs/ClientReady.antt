@@ -18,7 +18,7 @@ pub record Ready (L : Limits) (Came : Body → Type 0) (k : Client) : Type 0 whe
 -- what a step needs to keep it
 abbrev pub Fits : Limits → (Body → Type 0) → Client → ClientStep → Type 0
 Fits L Came k (ChangeCache (WriteBytes p b)) = p < L.pages
-Fits L Came k (ChangeCache (TakePermission p g)) = is_asking k.ask ≡ false
+Fits L Came k (ChangeCache (TakePermission p)) = is_asking k.ask ≡ false
 Fits L Came k (ChangeCache Finish) = is_asking k.ask ≡ false
 Fits L Came k (ChangeCache Abandon) = is_asking k.ask ≡ false
 Fits L Came k (ChangeCache (TakeDone n)) = is_asking k.ask ≡ false

@@ -78,7 +78,7 @@ to_hears : (L : Limits) (k : Client) (y : Body) (let_go : Option ℕ) → ToServ
 to_hears L k (Granted p g v b) let_go = to_granted k p g v b let_go (k.cache.held p)
 to_hears L k (MayWrite t p g) let_go = go (of_open_txn k t && asks_to_write k.ask p && is_exactly (k.cache.held p) g)
   where
-    go : (r : Bool) → ToServer (if r then SetAsk NoAsk ∷ ChangeCache (TakePermission p g) ∷ [] else [])
+    go : (r : Bool) → ToServer (if r then SetAsk NoAsk ∷ ChangeCache (TakePermission p) ∷ [] else [])
     go true = tt
     go false = tt
 to_hears L k (Callback p g) let_go = go (is_exactly (k.cache.held p) g) (k.cache.locked p)

@@ -230,11 +230,11 @@ downgraded_may L Came k p g t h w c = go (is_exactly (k.cache.held p) g) refl (k
         none = grind arith
 
 may_write_may : (L : Limits) (Came : Body → Type 0) (k : Client) (t p g : ℕ) → k.cache.welcomed ≡ true → Came (MayWrite t p g)
-    → ClientStepsMay L.keep_write Came k.cache (if of_open_txn k t && asks_to_write k.ask p && is_exactly (k.cache.held p) g then SetAsk NoAsk ∷ ChangeCache (TakePermission p g) ∷ [] else [])
+    → ClientStepsMay L.keep_write Came k.cache (if of_open_txn k t && asks_to_write k.ask p && is_exactly (k.cache.held p) g then SetAsk NoAsk ∷ ChangeCache (TakePermission p) ∷ [] else [])
 may_write_may L Came k t p g w c = go (of_open_txn k t && asks_to_write k.ask p && is_exactly (k.cache.held p) g) refl
   where
-    go : (r : Bool) → (of_open_txn k t && asks_to_write k.ask p && is_exactly (k.cache.held p) g) ≡ r → ClientStepsMay L.keep_write Came k.cache (if r then SetAsk NoAsk ∷ ChangeCache (TakePermission p g) ∷ [] else [])
-    go true e = ((w, grind arith, subst (λ (x : ℕ). Came (MayWrite x p g)) same c, is_held_is (k.cache.held p) g (grind arith)), tt)
+    go : (r : Bool) → (of_open_txn k t && asks_to_write k.ask p && is_exactly (k.cache.held p) g) ≡ r → ClientStepsMay L.keep_write Came k.cache (if r then SetAsk NoAsk ∷ ChangeCache (TakePermission p) ∷ [] else [])
+    go true e = ((w, grind arith, (g, subst (λ (x : ℕ). Came (MayWrite x p g)) same c, is_held_is (k.cache.held p) g (grind arith))), tt)
       where
         same : t ≡ k.cache.number
         same = grind arith

@@ -269,7 +269,7 @@ spare_hears : (p g : ℕ) (L : Limits) (k : Client) (b : Body) (let_go : Option 
 spare_hears p g L k (Granted q x v b) let_go l e n w = spare_granted p g k q x v b let_go l e
 spare_hears p g L k (MayWrite t q x) let_go l e n w = go (of_open_txn k t && asks_to_write k.ask q && is_exactly (k.cache.held q) x)
   where
-    go : (r : Bool) → AllSpare p g (if r then SetAsk NoAsk ∷ ChangeCache (TakePermission q x) ∷ [] else [])
+    go : (r : Bool) → AllSpare p g (if r then SetAsk NoAsk ∷ ChangeCache (TakePermission q) ∷ [] else [])
     go true = (tt, (tt, tt))
     go false = tt
 spare_hears p g L k (Callback q x) let_go l e n w = spare_called p g k q x l e

@@ -194,7 +194,7 @@ on_welcomed : (L : Limits) (k : Client) (v : Leave) (b : Body) (let_go : Option 
 on_welcomed L k v (Granted p g x b) let_go n u e w = on_granted k v p g x b let_go n u
 on_welcomed L k v (MayWrite t p g) let_go n u e w = go (of_open_txn k t && asks_to_write k.ask p && is_exactly (k.cache.held p) g)
   where
-    go : (r : Bool) → OnSteps k v (if r then SetAsk NoAsk ∷ ChangeCache (TakePermission p g) ∷ [] else [])
+    go : (r : Bool) → OnSteps k v (if r then SetAsk NoAsk ∷ ChangeCache (TakePermission p) ∷ [] else [])
     go true = (tt, (tt, tt))
     go false = tt
 on_welcomed L k v (Callback p g) let_go n u e w = on_called k v p g n

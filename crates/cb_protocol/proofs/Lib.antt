@@ -340,14 +340,6 @@ pub mod SessionChanges
 pub mod SettlingAgain
 pub mod SettlingClears
 pub mod SettlingRight
-pub mod Short00To03
-pub mod Short04To07
-pub mod Short08To11
-pub mod Short12To15
-pub mod Short16To19
-pub mod ShortKept00To03
-pub mod ShortKept04To07
-pub mod ShortKept08To09
 pub mod StepsAlone
 pub mod TransactionEnds
 pub mod TranscriptKept

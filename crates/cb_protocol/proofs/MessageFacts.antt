@@ -15,7 +15,7 @@ now_begin c s t k y h w i f = grind arith
 pub now_lock : (c : ℕ) (s : Store) (t : Session) (k : Cache) (p : ℕ) (y : Body) → SessionFacts c s t k → k.welcomed ≡ true → MessageFact c s t k y → MessageFact c s t (cache_after s.keep_write k (Lock p)) y
 now_lock c s t k p y h w f = grind arith
 
-pub now_permission : (c : ℕ) (s : Store) (t : Session) (k : Cache) (p g : ℕ) (y : Body) → SessionFacts c s t k → k.welcomed ≡ true → k.status ≡ Open → MessageFact c s t k y → MessageFact c s t (cache_after s.keep_write k (TakePermission p g)) y
+pub now_permission : (c : ℕ) (s : Store) (t : Session) (k : Cache) (p g : ℕ) (y : Body) → SessionFacts c s t k → k.welcomed ≡ true → k.status ≡ Open → MessageFact c s t k y → MessageFact c s t (cache_after s.keep_write k (TakePermission p)) y
 now_permission c s t k p g y h w o f = grind arith
 
 pub now_put : (c : ℕ) (s : Store) (t : Session) (k : Cache) (p : ℕ) (b : Bytes) (y : Body) → SessionFacts c s t k → k.welcomed ≡ true → k.status ≡ Open → MessageFact c s t k y → MessageFact c s t (cache_after s.keep_write k (WriteBytes p b)) y

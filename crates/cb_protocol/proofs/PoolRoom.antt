@@ -249,7 +249,7 @@ shrinks_change b k TakeWelcome f g w = record { gone = λ q e. e; fixed = λ q e
 shrinks_change b k Begin f g w = record { gone = λ q e. e; fixed = λ q e. e; held = λ q e. inl e; ask = λ q e. e }
 shrinks_change b k (Lock p) f g w = record { gone = λ q e. e; fixed = λ q e. e; held = λ q e. inl e; ask = λ q e. e }
 shrinks_change b k (Read p x) f g w = record { gone = λ q e. e; fixed = λ q e. e; held = λ q e. inl e; ask = λ q e. e }
-shrinks_change b k (TakePermission p x) f g w = record { gone = λ q e. e; fixed = λ q e. e; held = λ q e. inl e; ask = λ q e. e }
+shrinks_change b k (TakePermission p) f g w = record { gone = λ q e. e; fixed = λ q e. e; held = λ q e. inl e; ask = λ q e. e }
 shrinks_change b k Finish f g w = record { gone = λ q e. e; fixed = λ q e. e; held = λ q e. inl e; ask = λ q e. e }
 shrinks_change b k (RefuseGrant p x) f g w = record { gone = λ q e. e; fixed = λ q e. e; held = λ q e. inl e; ask = λ q e. e }
 shrinks_change b k (YieldPermission p) f g w = record { gone = λ q e. e; fixed = λ q e. e; held = λ q e. inl e; ask = λ q e. e }

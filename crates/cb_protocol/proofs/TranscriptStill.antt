@@ -109,7 +109,7 @@ still_hears : (L : Limits) (k : Client) (y : Body) (let_go : Option ℕ) → Sti
 still_hears L k (Granted p g v b) let_go = still_granted k p g v b let_go (k.cache.held p)
 still_hears L k (MayWrite t p g) let_go = go (of_open_txn k t && asks_to_write k.ask p && is_exactly (k.cache.held p) g)
   where
-    go : (r : Bool) → Still (if r then SetAsk NoAsk ∷ ChangeCache (TakePermission p g) ∷ [] else [])
+    go : (r : Bool) → Still (if r then SetAsk NoAsk ∷ ChangeCache (TakePermission p) ∷ [] else [])
     go true = (tt, tt)
     go false = tt
 still_hears L k (Callback p g) let_go = go (is_exactly (k.cache.held p) g) (k.cache.locked p)

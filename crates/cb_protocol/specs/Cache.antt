@@ -73,7 +73,7 @@ pub data CacheChange : Type 0 where
   Lock : (page : ℕ) → CacheChange
   -- a read is answered with these bytes, and locks the page
   Read : (page : ℕ) → (bytes : Bytes) → CacheChange
-  TakePermission : (page grant : ℕ) → CacheChange
+  TakePermission : (page : ℕ) → CacheChange
   WriteBytes : (page : ℕ) → (bytes : Bytes) → CacheChange  -- a write
   Finish : CacheChange  -- the transaction commits
   -- the transaction ends as dropped or aborted: the copies that it wrote go, and all permissions
@@ -99,7 +99,7 @@ cache_after keep_write cache (Read page bytes) = record cache {
   locked = update cache.locked page true;
   operations = Saw page bytes ∷ cache.operations;
 }
-cache_after keep_write cache (TakePermission page grant) = record cache {
+cache_after keep_write cache (TakePermission page) = record cache {
   may_write = update cache.may_write page true;
   tag = update cache.tag page cache.number;
 }

@@ -92,7 +92,7 @@ take_welcomed limits client (Granted page grant version bytes) let_go =
 take_welcomed limits client (MayWrite txn page grant) let_go =
     if of_open_txn client txn && asks_to_write client.ask page
     && is_exactly (client.cache.held page) grant
-    then SetAsk NoAsk ∷ ChangeCache (TakePermission page grant) ∷ [] else []
+    then SetAsk NoAsk ∷ ChangeCache (TakePermission page) ∷ [] else []
 take_welcomed limits client (Callback page grant) let_go = take_callback client page grant
 take_welcomed limits client (Done txn number) let_go =
     if of_committing_txn client txn

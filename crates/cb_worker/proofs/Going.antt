@@ -61,8 +61,8 @@ module _ (L : Limits) (k : Client) where
     by_welcomed (Granted p g x b) = quiet (take_granted k p g x b let_go (k.cache.held p)) (on_granted k (λ q. ⊤) (λ q e. tt) (λ q e. tt) (λ q e. tt) p g x b let_go (λ f q e. tt))
     by_welcomed (MayWrite t p g) = go (of_open_txn k t && asks_to_write k.ask p && is_exactly (k.cache.held p) g)
       where
-        go : (r : Bool) → OpenOrAborted k (client_after L.keep_write k (if r then SetAsk NoAsk ∷ ChangeCache (TakePermission p g) ∷ [] else []))
-        go true = quiet (SetAsk NoAsk ∷ ChangeCache (TakePermission p g) ∷ []) ((λ q. refl), (tt, tt))
+        go : (r : Bool) → OpenOrAborted k (client_after L.keep_write k (if r then SetAsk NoAsk ∷ ChangeCache (TakePermission p) ∷ [] else []))
+        go true = quiet (SetAsk NoAsk ∷ ChangeCache (TakePermission p) ∷ []) ((λ q. refl), (tt, tt))
         go false = quiet [] tt
     by_welcomed (Callback p g) = quiet (take_callback k p g) (on_called k (λ q. ⊤) (λ q e. tt) (λ q e. tt) (λ q e. tt) p g)
     by_welcomed (Done t m) = go (of_committing_txn k t) refl

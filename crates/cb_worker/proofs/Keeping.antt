@@ -222,7 +222,7 @@ module _ (L : Limits) (k : Client) (v : ℕ → Type 0) (let_go : Option ℕ) (g
   on_welcomed (Granted p g x b) w lets = λ n. on_granted k v gone come fill p g x b let_go (λ f. lets (ap brings_page (takes_welcomed L k (Granted p g x b) let_go w (λ e. absurd cc)) ∙ f))
   on_welcomed (MayWrite t p g) w lets = go (of_open_txn k t && asks_to_write k.ask p && is_exactly (k.cache.held p) g)
     where
-      go : (r : Bool) → GoesOn (if r then SetAsk NoAsk ∷ ChangeCache (TakePermission p g) ∷ [] else [])
+      go : (r : Bool) → GoesOn (if r then SetAsk NoAsk ∷ ChangeCache (TakePermission p) ∷ [] else [])
       go true = λ n. ((λ q. refl), (tt, tt))
       go false = λ n. tt
   on_welcomed (Callback p g) w lets = λ n. on_called k v gone come fill p g
