@@ -1,0 +1,12 @@
+pub mod Programs
+pub mod Steps
+pub mod Moves
+pub mod Worlds
+pub mod Laws
+pub mod ByContracts
+pub mod NextLife
+pub mod Processes
+pub mod ProcessSteps
+pub mod ProcessWorlds
+pub mod ProcessLaws
+pub mod ServedFile

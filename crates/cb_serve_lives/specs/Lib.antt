@@ -1,6 +1,0 @@
-pub mod NextLife
-pub mod Processes
-pub mod ProcessSteps
-pub mod ProcessWorlds
-pub mod ProcessLaws
-pub mod ServedFile

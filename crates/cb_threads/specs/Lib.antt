@@ -1,6 +1,0 @@
-pub mod Programs
-pub mod Steps
-pub mod Moves
-pub mod Worlds
-pub mod Laws
-pub mod ByContracts
