@@ -1,6 +1,6 @@
 """The part of `scripts/bench library` that sets held reads beside what else a process may read
-from: a link in C beside SQLite, LMDB and a GET of Redis, and one each in Rust and in Python beside
-the same."""
+from: a link in C beside SQLite, LMDB and a GET of Redis, and one in Python beside the same. A link
+in Rust is timed alone, since its peers would be those of C."""
 import os
 import shutil
 import subprocess
@@ -54,7 +54,7 @@ def in_c(room: Path, top: Path) -> Path | None:
 
 
 def in_rust(room: Path, top: Path) -> Path | None:
-    """The program in Rust; none where there is no rustc, or a library isn't installed."""
+    """The program in Rust; none where there is no rustc."""
     if not shutil.which(rustc := of_rust("rustc")):
         print("rustc isn't installed: nothing in Rust", flush=True)
         return None
@@ -65,9 +65,6 @@ def in_rust(room: Path, top: Path) -> Path | None:
     words += [PROGRAMS / "rust/held_reads.rs", "-o", made]
     for each in [*make, f"RUSTC={rustc}", crate], words:
         done = subprocess.run(each, capture_output=True, text=True, check=False)
-        if "cannot find -l" in done.stderr:
-            print("SQLite's library or LMDB isn't installed: nothing in Rust", flush=True)
-            return None
         if done.returncode:
             raise building.NotBuilt(f"held_reads.rs isn't compiled\n{done.stderr}")
     return made
@@ -82,13 +79,13 @@ def python() -> str:
 
 def measured(room: Path, top: Path) -> int:
     """Runs all for each size; the highest status."""
-    status, programs = 0, [in_c(room, top), in_rust(room, top)]
+    status, in_c_made, in_rust_made = 0, in_c(room, top), in_rust(room, top)
     env = {**os.environ, "PYTHONPATH": f"{top}/share/rughvadi/python"}
     with redis(room) as path:
         for size in SIZES:
-            commands = [[python(), PROGRAMS / "python/held_reads.py"]]
-            commands += [[program] for program in programs if program]
+            commands = [[python(), PROGRAMS / "python/held_reads.py", room, size, path]]
+            commands += [[in_c_made, room, size, path]] if in_c_made else []
+            commands += [[in_rust_made, size]] if in_rust_made else []
             for words in commands:
-                done = subprocess.run([*words, room, size, path], env=env, check=False)
-                status = max(status, done.returncode)
+                status = max(status, subprocess.run(words, env=env, check=False).returncode)
     return status

@@ -8,9 +8,10 @@ is uthash's where its header is installed (Debian's uthash-dev), else a chained 
 own.
 
 Then for each size, of values that a process has at hand: a read, a transaction of one and one of
-eight, through a link in C, in Rust and in Python; beside SQLite's library (Python's `sqlite3`),
-LMDB and a GET of a Redis server on a Unix socket, each by the same language. On Debian that takes
-libsqlite3-dev, liblmdb-dev, python3-lmdb, redis-server and rustc; what isn't there is left out.
+eight, through a link in C, in Rust and in Python; that in C and that in Python beside SQLite's
+library (Python's `sqlite3`), LMDB and a GET of a Redis server on a Unix socket, by the same
+language. On Debian that takes libsqlite3-dev, liblmdb-dev, python3-lmdb, redis-server and rustc;
+what isn't there is left out.
 
 It takes the archive in crates/rughvadi/out, which `scripts/library` builds; CC and RUSTC name other
 compilers. It takes a minute. The status is 2 where the archive isn't there.

@@ -111,7 +111,7 @@ def main(words):
             building.named("OWN") or building.program("own_pages", OWN, first, room),
             building.named("ALONE") or building.program("kit_jobs", ALONE, other, room),
             building.in_c("jobs", room, "-lsqlite3"),
-            building.library_in_c("slow_sync", room, "-ldl"),
+            building.library_in_c("sync", room, "-ldl"),
         )
         for number in range(1, turns + 1):
             print(f"turn {number}", flush=True)

@@ -245,7 +245,7 @@ def main(words: list[str]) -> int:
             building.in_c("plain_server", room, "-lsqlite3"),
             serving.in_c(building.PROGRAMS / "c/serve_client.c", room, lib),
             serving.in_c(building.PROGRAMS / "c/fighters.c", room, lib),
-            building.library_in_c("slow_sync", room, "-ldl"),
+            building.library_in_c("sync", room, "-ldl"),
         )
         if slower := os.environ.get("SYNC"):
             os.environ.update(LD_PRELOAD=str(it.slow_sync), SYNC_MICROSECONDS=slower)

@@ -95,6 +95,27 @@ def listed(name: str) -> list[Edit]:
     return edits_of(FOLDER / f"{name}.edits")
 
 
+def in_gate(name: str) -> list[Edit]:
+    """The edits of a crate that the gate tries."""
+    paths = sorted((TOP / "crates" / name).glob("must-fail/*.edit"))
+    return [Edit(path.stem, False, path.read_text().splitlines()) for path in paths]
+
+
+def faults(name: str) -> list[str]:
+    """What is wrong with a crate's edits, both kinds of them: with how one is written; and that a
+    name, or what is changed, stands there twice."""
+    wrong, names, changes = [], set(), {}
+    for it in [*in_gate(name), *(listed(name) if name in crates() else [])]:
+        if (it.name, it.is_tested) in names:
+            wrong.append(f"{it.name}: its name stands there twice")
+        names.add((it.name, it.is_tested))
+        if fault := it.fault(TOP / "crates" / name):
+            wrong.append(f"{it.name}: {fault}")
+        elif (other := changes.setdefault(str(it.pairs()), it)) is not it:
+            wrong.append(f"{it.name}: it changes what {other.name} changes")
+    return wrong
+
+
 def crates() -> list[str]:
     """The crates that have edits."""
     return sorted(path.stem for path in FOLDER.glob("*.edits"))

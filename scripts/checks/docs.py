@@ -15,16 +15,17 @@
   headings where it names one.
 - README names no folder or file of the repository that isn't there, and no page names a word of
   scripts/check or scripts/bench that there isn't.
-- Each must-fail edit can be applied: its old texts stand exactly once in their files.
+- Each edit of the gate and each wrong body can be applied: its old texts stand exactly once in
+  their files. None stands in a crate twice.
 
-It needs nothing, and takes less than a second. The status is 1 where something doesn't hold.
+It needs nothing, and takes some two seconds. The status is 1 where something doesn't hold.
 """
 import pathlib
 import re
 import subprocess
 
 from building import TOP
-from bodies.edits import Edit
+from bodies import edits
 
 # The crates that show an example, and where the test of each stands.
 EXAMPLES = {
@@ -183,13 +184,10 @@ def unprinted() -> list[str]:
 
 
 def bad_edits() -> list[str]:
-    """Must-fail edits with an old text that doesn't stand exactly once in its file."""
-    wrong = []
-    for path in sorted(TOP.glob("crates/*/must-fail/*.edit")):
-        edit = Edit(path.stem, False, path.read_text().splitlines())
-        if edit.changed(path.parent.parent) is None:
-            wrong.append(f"{path.relative_to(TOP)}: an old text doesn't stand once in its file")
-    return wrong
+    """What is wrong with edits of the gate, and with wrong bodies."""
+    named = {path.parent.parent.name for path in TOP.glob("crates/*/must-fail/*.edit")}
+    each = sorted(named.union(edits.crates()))
+    return [f"{name}: {fault}" for name in each for fault in edits.faults(name)]
 
 
 def main(_words: list[str]) -> int:

@@ -221,7 +221,7 @@ def in_turn(it: Store) -> str:
 def read_beside_a_sync(room: Path, serve: Path) -> str:
     """While the sync of a commit is held, others' reads are answered, and the commit isn't."""
     store, fifo = Store(room, (serve,), (), None), room / "fifo"
-    env = {**os.environ, "LD_PRELOAD": str(building.library_in_c("held_sync", room, "-ldl")),
+    env = {**os.environ, "LD_PRELOAD": str(building.library_in_c("sync", room, "-ldl")),
            "HELD_SYNC": str(fifo), "ASAN_OPTIONS": "verify_asan_link_order=0"}
     server = Server(store.words(), env=env)
     try:

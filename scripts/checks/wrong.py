@@ -55,13 +55,9 @@ def list_all(names: list[str]) -> int:
         counts.update(proved=len(edits) - tested_ones, tested=tested_ones)
         print(f"{name}: {len(edits) - tested_ones}", end="")
         print(f" and {tested_ones} tested" if tested_ones else "")
-        times = Counter((it.name, it.is_tested) for it in edits)
-        for it in edits:
-            is_twice = times[it.name, it.is_tested] > 1
-            fault = "its name stands there twice" if is_twice else it.fault(TOP / "crates" / name)
-            if fault:
-                counts["wrong"] += 1
-                print(f"  {it.name}: {fault}")
+        faults = written.faults(name)
+        counts["wrong"] += len(faults)
+        print("".join(f"  {it}\n" for it in faults), end="")
     print(f"{counts['proved']} wrong bodies and {counts['tested']} tested, {counts['wrong']} wrong")
     return 1 if counts["wrong"] or not counts["proved"] + counts["tested"] else 0
 

@@ -31,7 +31,7 @@ pub struct Asks {
     spare: Spare,
 }
 
-// By hand, so that who owns asks proves this drop alone, and not those of all its parts.
+// By hand: see docs/PROVING.md, "Drops".
 impl Drop for Asks {
     fn drop(self) {
         let Asks {

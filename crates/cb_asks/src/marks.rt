@@ -15,7 +15,7 @@ pub struct Marks {
     by_page: Vec<ClientSet>,
 }
 
-// By hand, so that who owns marks proves this drop alone, and not those of all its parts.
+// By hand: see docs/PROVING.md, "Drops".
 impl Drop for Marks {
     fn drop(self) {
         let Marks {

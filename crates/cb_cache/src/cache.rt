@@ -36,7 +36,7 @@ pub struct Cache<Q: Chooser> {
     pool: Pool<Q>,
 }
 
-// By hand, so that who owns copies proves this drop alone, and not those of all its parts.
+// By hand: see docs/PROVING.md, "Drops".
 impl<Q: Chooser> Drop for Cache<Q> {
     fn drop(self) {
         let Cache {

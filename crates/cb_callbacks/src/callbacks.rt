@@ -31,7 +31,7 @@ pub struct Callbacks {
     view: View,
 }
 
-// By hand, so that who owns callbacks proves this drop alone, and not those of all its parts.
+// By hand: see docs/PROVING.md, "Drops".
 impl Drop for Callbacks {
     fn drop(self) {
         let Callbacks { state: _, view: _ } = self;

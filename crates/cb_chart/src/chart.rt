@@ -46,7 +46,7 @@ pub struct Chart {
     marks: Vec<Mark>,
 }
 
-// By hand, so that who owns a chart proves this drop alone, and not those of all its parts.
+// By hand: see docs/PROVING.md, "Drops".
 impl Drop for Chart {
     fn drop(self) {
         let Chart {

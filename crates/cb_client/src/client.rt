@@ -33,7 +33,7 @@ pub struct Client<Q: Chooser> {
     core: ClientCore<Q>,
 }
 
-// By hand, so that who owns a client proves this drop alone, and not those of all its parts.
+// By hand: see docs/PROVING.md, "Drops".
 impl<Q: Chooser> Drop for Client<Q> {
     fn drop(self) {
         let Client { core: _ } = self;

@@ -22,7 +22,7 @@ pub struct Batch {
     pages: Vec<BatchPage>,
 }
 
-// By hand, so that who owns a batch proves this drop alone, and not those of all its parts.
+// By hand: see docs/PROVING.md, "Drops".
 impl Drop for Batch {
     fn drop(self) {
         let Batch {

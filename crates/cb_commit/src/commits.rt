@@ -35,7 +35,7 @@ pub struct Commits {
     changed: PageSet,
 }
 
-// By hand, so that who owns commits proves this drop alone, and not those of all its parts.
+// By hand: see docs/PROVING.md, "Drops".
 impl Drop for Commits {
     fn drop(self) {
         let Commits {

@@ -7,13 +7,14 @@
 //! in order. [`Commits::batch`] says what is to be written next. Once a batch is on disk,
 //! [`Commits::flushed`] returns a Done for each commit in it that wasn't reported yet.
 //!
+//! The commits are a [`Past`], a list that grows at its end, and whose first items may leave memory
+//! once nobody needs them. In contracts they stay: contracts see all items that there ever were,
+//! beside how many of them were forgotten. A law of the whole list therefore holds, whatever part
+//! of it memory has.
+//!
 //! The invariant of [`Commits`] is that the store is the fold of the commits. A batch brings any
 //! flushed state to the present one. An example that is run as a test is `batches_and_dones` in
 //! `cb_layer_tests`.
-//!
-//! A [`Past`] grows at its end, and its first items may leave memory once nobody needs them. In
-//! contracts they stay: contracts see all items that there ever were, beside how many of them were
-//! forgotten. A law of the whole list therefore holds, whatever part of it memory has.
 #![tactic(auto)]
 
 mod batch;

@@ -1,4 +1,4 @@
-//! The type, and what it asks of its items.
+//! A list whose first items may be forgotten, and what it asks of its items.
 ghost use Rattle.std.specs.Prelude.{◌≡◌, ◌+◌, ◌++◌, ◌<◌, ◌≤◌, [], ◌∷◌, length, OnErr, OnOk};
 ghost use Rattle.cb_commit.specs.Past.{remembered};
 

@@ -37,7 +37,7 @@ pub struct Store {
     number: u64,
 }
 
-// By hand, so that who owns a store proves this drop alone, and not those of all its parts.
+// By hand: see docs/PROVING.md, "Drops".
 impl Drop for Store {
     fn drop(self) {
         let Store {

@@ -19,7 +19,7 @@ pub struct Directory {
     next_grant: u64,
 }
 
-// By hand, so that who owns a directory proves this drop alone, and not those of all its parts.
+// By hand: see docs/PROVING.md, "Drops".
 impl Drop for Directory {
     fn drop(self) {
         let Directory {

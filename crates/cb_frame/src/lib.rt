@@ -1,13 +1,13 @@
-//! Frames: the messages between a client and the server, and their bytes.
+//! Frames: the messages between a client and the server, as values and as bytes.
 //!
-//! A frame has a header of 16 bytes and a body. All numbers have their highest byte first. The
+//! A [`Frame`] names a client and its incarnation, and says one thing ([`Body`], [`Kind`]). As
+//! bytes it has a header of 16 bytes and a body. All numbers have their highest byte first. The
 //! header is the version of the format (one byte, 1 or 2), the kind (one byte), the client (two),
-//! its incarnation (eight) and the length of the body (four). [`Frame::fits`] says which frames
-//! there are under given limits; each of them has one spelling in a version. [`encode`] writes the
-//! newest version, [`decode`] reads both, whatever follows the frame.
+//! its incarnation (eight) and the length of the body (four).
 //!
-//! Frames as values: the messages between a client and the server, their kinds, the versions of
-//! their format, and the numbers of their bodies. Their bytes are defined here too (`specs/`).
+//! [`Frame::fits`] says which frames there are under given limits; each of them has one spelling in
+//! a version, which `specs/` defines. [`encode`] writes the newest version, [`decode`] reads both,
+//! whatever follows the frame.
 #![tactic(auto)]
 
 mod decoding;

@@ -23,7 +23,7 @@ pub struct Writes {
     items: Vec<Write>,
 }
 
-// By hand, so that who owns writes proves this drop alone, and not those of all its parts.
+// By hand: see docs/PROVING.md, "Drops".
 impl Drop for Writes {
     fn drop(self) {
         let Writes { items: _ } = self;

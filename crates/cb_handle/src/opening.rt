@@ -21,7 +21,7 @@ pub struct Opening {
     rows: Vec<StoredPage>,
 }
 
-// By hand, so that who owns rows proves this drop alone, and not those of all its parts.
+// By hand: see docs/PROVING.md, "Drops".
 impl Drop for Opening {
     fn drop(self) {
         let Opening {

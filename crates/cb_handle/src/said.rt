@@ -24,7 +24,7 @@ pub struct Said {
     single: Option<Frame>,
 }
 
-// By hand, so that who owns frames proves this drop alone, and not those of all its parts.
+// By hand: see docs/PROVING.md, "Drops".
 impl Drop for Said {
     fn drop(self) {
         let Said {

@@ -20,7 +20,7 @@ pub struct JoinedHands {
     entries: Vec<Option<StoredHand>>,
 }
 
-// By hand, so that who owns stored hands proves this drop alone, and not those of all its parts.
+// By hand: see docs/PROVING.md, "Drops".
 impl Drop for JoinedHands {
     fn drop(self) {
         let JoinedHands { entries: _ } = self;

@@ -21,7 +21,7 @@ pub(crate) struct StoredHand {
     writable: PageSet,
 }
 
-// By hand, so that who owns a stored hand proves this drop alone, and not those of all its parts.
+// By hand: see docs/PROVING.md, "Drops".
 impl Drop for StoredHand {
     fn drop(self) {
         let StoredHand {

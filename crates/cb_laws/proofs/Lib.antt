@@ -20,7 +20,7 @@
 --
 -- What carries the laws
 --
--- The laws of `cb_laws` rest on these (in `proofs` of `cb_laws` unless another crate is named):
+-- The laws over all lives rest on these (in `proofs` here unless another crate is named):
 --
 -- - **What is sent** (`event_sends`, `LifeSends` of `cb_protocol`) is the walk of `event_follows`
 --   once more, for the messages of each event. That a Welcome is for a Hello is a rule of single
@@ -53,7 +53,7 @@
 --
 -- Wrong tables
 --
--- Those of `cb_laws.edits` break laws of `cb_laws`. Most are tables of `cb_protocol` that no
+-- Those of `cb_laws.edits` break laws over all lives. Most are tables of `cb_protocol` that no
 -- clause of that crate refuses, though its machine may ask for what they break.
 --
 -- - `life_without_pages` (the server of a new life has none), `life_without_clients`,

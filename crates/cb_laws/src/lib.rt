@@ -1,14 +1,16 @@
-//! Laws of the world over all lives of the server, and further laws of a world, beside what each
-//! promises.
+//! Laws of the protocol beside what it promises: of a server that restarts, and of the pages and
+//! rows within one life of a server.
 //!
-//! A life of the server is the time from one start of it to the next. The world over all lives and
-//! its promise are in `cb_protocol` (`specs/LivesWorld`, `specs/Lives`). The laws here say what
-//! each event leaves and sends, what stands whatever comes after, that each event can happen, and
-//! how the server of a new life arises. The crate has no code: each function carries laws in its
-//! contract, and its lists of several lives are computed by the definitions (`proofs/WorkedLives`).
+//! A life is the time from one start of the server to the next. `cb_protocol` has the world of one
+//! life and its promise (`specs/World`, `specs/Headline`), and the world over all lives and its own
+//! (`specs/LivesWorld`, `specs/Lives`). The laws here are about these definitions.
 //!
-//! The world of one life and its promise are in `cb_protocol` (`specs/World`, `specs/Headline`),
-//! whose definitions the further laws are about.
+//! Over all lives they say what each event leaves and sends, what stands whatever comes after, that
+//! each event can happen, and how the server of a new life arises. Within one life they say who has
+//! a page that is being written, which version a row has, and when the copy of a new row is sent.
+//!
+//! The crate has no code: each function carries laws in its contract. Its examples of several lives
+//! are computed by the definitions (`proofs/WorkedLives`).
 #![tactic(auto)]
 
 ghost use Rattle.cb_laws.specs.LifeLaws.{FloorsInRange, IncarnationsStayInRange};

@@ -148,7 +148,7 @@ pub struct Sessions {
     sessions: Vec<Session>,
 }
 
-// By hand, so that who owns sessions proves this drop alone, and not those of all its parts.
+// By hand: see docs/PROVING.md, "Drops".
 impl Drop for Sessions {
     fn drop(self) {
         let Sessions { sessions: _ } = self;

@@ -29,7 +29,7 @@ pub struct ReadLocks {
     dues: Dues,
 }
 
-// By hand, so that who owns read locks proves this drop alone, and not those of all its parts.
+// By hand: see docs/PROVING.md, "Drops".
 impl Drop for ReadLocks {
     fn drop(self) {
         let ReadLocks {

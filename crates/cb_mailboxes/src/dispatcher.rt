@@ -34,7 +34,7 @@ pub struct Dispatcher {
     mailboxes: Mailboxes,
 }
 
-// By hand, so that who owns a dispatcher proves this drop alone, and not those of all its parts.
+// By hand: see docs/PROVING.md, "Drops".
 impl Drop for Dispatcher {
     fn drop(self) {
         let Dispatcher {

@@ -19,7 +19,7 @@ pub struct Outbox {
     page_size: usize,
 }
 
-// By hand, so that who owns an outbox proves this drop alone, and not those of all its parts.
+// By hand: see docs/PROVING.md, "Drops".
 impl Drop for Outbox {
     fn drop(self) {
         let Outbox {

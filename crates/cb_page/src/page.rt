@@ -13,7 +13,7 @@ pub struct Page {
     bytes: Vec<u8>,
 }
 
-// By hand, so that who owns a page proves this drop alone, and not those of all its parts.
+// By hand: see docs/PROVING.md, "Drops".
 impl Drop for Page {
     fn drop(self) {
         let Page { bytes: _ } = self;

@@ -24,7 +24,7 @@ pub struct PageSet {
     pages: usize,
 }
 
-// By hand, so that who owns a set of pages proves this drop alone, and not those of all its parts.
+// By hand: see docs/PROVING.md, "Drops".
 impl Drop for PageSet {
     fn drop(self) {
         let PageSet {

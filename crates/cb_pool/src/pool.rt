@@ -70,7 +70,7 @@ pub struct Pool<Q: Chooser> {
     copies: Copies,
 }
 
-// By hand, so that who owns a pool proves this drop alone, and not those of all its parts.
+// By hand: see docs/PROVING.md, "Drops".
 impl<Q: Chooser> Drop for Pool<Q> {
     fn drop(self) {
         let Pool {

@@ -1,22 +1,20 @@
 //! Runs of workers over a store: their jobs, the flusher, and a whole run.
 //!
-//! - [`work`] does a worker's jobs, each a transaction that counts up pages 0 and 1.
+//! - A job adds one to the counters that pages 0 and 1 begin with ([`count_up`], [`counter_sum`]).
+//!   [`work`] does a worker's jobs, each in a transaction. A [`Gate`] says who may begin one. A
+//!   [`JobDone`] tells of one that was committed, and a [`Tally`] counts each of those once.
 //! - [`flush_loop`] waits on the office until there is a batch, releases the lock, writes the
 //!   batch, and takes the lock to report it. One write therefore serves all commits since the last.
 //!   A batch that is refused comes with the stop, and [`flush_again`] writes it before any other;
 //!   [`flush_in_tries`] tries it three times in all.
 //! - [`run_on`] is the body of `run`: workers on threads of their own, the flusher on the calling
 //!   one. Results are counted as batches are written. All jobs are committed where it says that the
-//!   run is done, unless somebody else cut it off. [`of_run`] says which fault ends a run, and
-//!   [`of_shelf`] how one of the store does.
+//!   run is done, unless somebody else cut it off. An [`Ending`] is why a run ended before that:
+//!   [`of_run`] says which fault ends a run, and [`of_shelf`] how one of the store does.
+//!   [`print_run`] prints the outcome.
 //! - [`flush_loop_watched`], [`flush_again_watched`] and [`run_on_watched`] are the same, and tell
-//!   a [`Watch`] of each batch.
-//!
-//! A job adds one to the counters that pages 0 and 1 begin with ([`count_up`], [`counter_sum`]). A
-//! [`Gate`] says who may begin a job. A [`JobDone`] tells of one that was committed, and a
-//! [`Tally`] counts each of those once. A [`Watch`] is told of each batch that is on disk:
-//! [`Progress`] shows it on a writer, at most twice a second, and [`Unwatched`] doesn't. An
-//! [`Ending`] is why a run ended before all was done. [`print_run`] prints the outcome of a run.
+//!   a [`Watch`] of each batch that is on disk: [`Progress`] shows it on a writer, at most twice a
+//!   second, and [`Unwatched`] doesn't.
 #![tactic(auto)]
 
 mod client;

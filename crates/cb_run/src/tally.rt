@@ -92,7 +92,7 @@ pub struct Tally {
     committed: u64,
 }
 
-// By hand, so that who owns a tally proves this drop alone, and not those of all its parts.
+// By hand: see docs/PROVING.md, "Drops".
 impl Drop for Tally {
     fn drop(self) {
         let Tally {

@@ -47,7 +47,7 @@ pub struct Server {
     engine: Engine,
 }
 
-// By hand, so that who owns a server proves this drop alone, and not those of all its parts.
+// By hand: see docs/PROVING.md, "Drops".
 impl Drop for Server {
     fn drop(self) {
         let Server {

@@ -41,7 +41,7 @@ pub struct ServerState {
     pub marks: Marks,
 }
 
-// By hand, so that who owns a state proves this drop alone, and not those of all its parts.
+// By hand: see docs/PROVING.md, "Drops".
 impl Drop for ServerState {
     fn drop(self) {
         let ServerState {

@@ -6,9 +6,9 @@
 //! there at all. [`flush_once`] writes what a server committed and reports it; whoever shares the
 //! server with others does so by [`write_and_report`].
 //!
-//! [`run`], [`ask`] and [`is_there`] are single statements. In contracts each is a step (`Inside`),
-//! and changes the database as the statements do that ran (`MakesAll`). [`put_mark`], [`put_page`]
-//! and [`put_pages`] are made of them.
+//! A shelf does all this by single statements within a transaction ([`run`], [`ask`],
+//! [`is_there`]), of which [`put_mark`], [`put_page`] and [`put_pages`] are made. In contracts each
+//! is a step (`Inside`), and changes the database as the statements do that ran (`MakesAll`).
 #![tactic(auto)]
 
 mod fault;

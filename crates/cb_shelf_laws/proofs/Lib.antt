@@ -3,7 +3,7 @@
 -- Texts: what each text is to the schema of the tables.
 -- Schemas: what the two schemas have in common.
 -- Replacing: what INSERT OR REPLACE of one row makes of a table.
--- Equal: sQL's equality of a value and a number.
+-- Equal: SQL's equality of a value and a number.
 -- Putting: what the statements that put a page in make of the tables.
 -- Living: what the statement that puts the row of life makes of the tables.
 -- Selecting: what a question by a key answers, by the rows that have the key.

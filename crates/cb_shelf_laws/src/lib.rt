@@ -1,11 +1,11 @@
-//! What the statements of a batch make of the rows of a shelf's tables, and what a file holds,
-//! whatever its servers went through, as laws by name.
+//! Laws of a shelf's file: what the statements of a batch make of the rows of its tables, and what
+//! a load returns, whatever its servers went through.
 //!
 //! The crate has no code: each function carries one law in its contract, over the definitions of
-//! `cb_shelf`. The laws are about a database with the four tables `mark2`, `page2`,
-//! `part` and `life`, as an open makes them, alone or behind the two tables of an older generation.
-//! Their rows have whole numbers as rowids, which rise (`IsShelf`). Each statement keeps this. Some
-//! laws are about tables without `life` (`IsUnlived`).
+//! `cb_shelf`. The laws are about a database with the four tables `mark2`, `page2`, `part` and
+//! `life`, as an open makes them, alone or behind the two tables of an older generation. Their rows
+//! have whole numbers as rowids, which rise (`IsShelf`). Each statement keeps this. Some laws are
+//! about tables without `life` (`IsUnlived`).
 //!
 //! A table is stated as a map from its key to its rows: `page_rows` and `part_rows`.
 //! `cb_shelf::Shelf::write` says that the statements of its batch ran (`MakesAll`), and

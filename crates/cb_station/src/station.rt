@@ -59,7 +59,7 @@ pub struct Station {
     flags: Flags,
 }
 
-// By hand, so that who owns a station proves this drop alone, and not those of all its parts.
+// By hand: see docs/PROVING.md, "Drops".
 impl Drop for Station {
     fn drop(self) {
         let Station {

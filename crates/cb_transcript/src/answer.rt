@@ -73,7 +73,7 @@ pub struct SentPackets {
     list: Vec<SentPacket>,
 }
 
-// By hand, so that who owns sent packets proves this drop alone, and not those of all its parts.
+// By hand: see docs/PROVING.md, "Drops".
 impl Drop for SentPackets {
     fn drop(self) {
         let SentPackets { list: _ } = self;

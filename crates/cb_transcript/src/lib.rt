@@ -1,10 +1,10 @@
-//! Events, the schedules that are lists of them, and the pieces of a text; what became of events in
-//! a world, and whether that is serial.
+//! The events of a world, as schedules spell them or as they are drawn; what became of them; and
+//! whether that is serial.
 //!
 //! An event is a call of a client, a packet that its addressee takes, a client's restart, or an
 //! event at the server: it resends, or hears that commits are on disk. [`read_schedule`] reads a
 //! list of events from its text, one a line. [`read_lives`] reads one in which the server restarts
-//! too.
+//! too. [`split_line`], [`split_word`] and [`number_of`] take any such text apart.
 //!
 //! A [`Drawing`] takes the words of a PCG generator, and gives one event after another, each for a
 //! world in which so many packets were sent so far.

@@ -28,7 +28,7 @@ pub struct LivesTranscript {
     commits: Vec<TransactionName>,
 }
 
-// By hand, so that who owns a transcript proves this drop alone, and not those of all its parts.
+// By hand: see docs/PROVING.md, "Drops".
 impl Drop for LivesTranscript {
     fn drop(self) {
         let LivesTranscript {

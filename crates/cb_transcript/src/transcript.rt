@@ -26,7 +26,7 @@ pub struct Transcript {
     commits: Vec<TransactionName>,
 }
 
-// By hand, so that who owns a transcript proves this drop alone, and not those of all its parts.
+// By hand: see docs/PROVING.md, "Drops".
 impl Drop for Transcript {
     fn drop(self) {
         let Transcript {

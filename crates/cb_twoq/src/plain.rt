@@ -25,7 +25,7 @@ pub struct PlainTwoQ {
     queues: PlainQueues,
 }
 
-// By hand, so that who owns a chooser proves this drop alone, and not those of all its parts.
+// By hand: see docs/PROVING.md, "Drops".
 impl Drop for PlainTwoQ {
     fn drop(self) {
         let PlainTwoQ { queues: _ } = self;

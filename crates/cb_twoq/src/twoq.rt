@@ -43,7 +43,7 @@ pub struct TwoQ {
     queues: IndexedQueues,
 }
 
-// By hand, so that who owns a chooser proves this drop alone, and not those of all its parts.
+// By hand: see docs/PROVING.md, "Drops".
 impl Drop for TwoQ {
     fn drop(self) {
         let TwoQ { queues: _ } = self;

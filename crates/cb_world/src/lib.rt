@@ -5,9 +5,9 @@
 //! moment. [`Lives`] is the same for a server that restarts, over all its lives. [`draw`] draws
 //! schedules: random events, in a world that plays them as they come.
 //!
-//! In contracts [`WorldClients`] are the clients of a world of the protocol: each call, packet and
-//! restart changes them as the protocol's step changes that world. Each of [`Packets`] has the
-//! bytes of a frame. A packet is sent by encoding the frame, and taken by decoding the bytes, any
+//! A world's clients are [`WorldClients`], each at its present incarnation: each call, packet and
+//! restart changes them as the protocol's step does. Its [`Packets`] are every packet that was ever
+//! sent, as bytes. A packet is sent by encoding a frame, and taken by decoding the bytes, any
 //! number of times and in any order. Taking a packet doesn't remove it.
 #![tactic(auto)]
 

@@ -73,7 +73,7 @@ pub struct Lives<Q: Chooser> {
     stopped: bool,
 }
 
-// By hand, so that who owns it proves this drop alone, and not those of all its parts.
+// By hand: see docs/PROVING.md, "Drops".
 impl<Q: Chooser> Drop for Lives<Q> {
     fn drop(self) {
         let Lives {

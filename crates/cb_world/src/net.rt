@@ -41,7 +41,7 @@ pub(crate) struct Net<Q: Chooser> {
     packets: Packets,
 }
 
-// By hand, so that who owns a net proves this drop alone, and not those of all its parts.
+// By hand: see docs/PROVING.md, "Drops".
 impl<Q: Chooser> Drop for Net<Q> {
     fn drop(self) {
         let Net {

@@ -20,7 +20,7 @@ pub struct Packets {
     sent: Vec<Packet>,
 }
 
-// By hand, so that who owns packets proves this drop alone, and not those of all its parts.
+// By hand: see docs/PROVING.md, "Drops".
 impl Drop for Packets {
     fn drop(self) {
         let Packets { limits: _, sent: _ } = self;

@@ -62,7 +62,7 @@ pub struct World<Q: Chooser> {
     stopped: bool,
 }
 
-// By hand, so that who owns a world proves this drop alone, and not those of all its parts.
+// By hand: see docs/PROVING.md, "Drops".
 impl<Q: Chooser> Drop for World<Q> {
     fn drop(self) {
         let World {

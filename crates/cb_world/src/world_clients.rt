@@ -33,7 +33,7 @@ pub struct WorldClients<Q: Chooser> {
     clients: Vec<Client<Q>>,
 }
 
-// By hand, so that who owns them proves this drop alone, and not those of all its parts.
+// By hand: see docs/PROVING.md, "Drops".
 impl<Q: Chooser> Drop for WorldClients<Q> {
     fn drop(self) {
         let WorldClients {

@@ -5,32 +5,14 @@
  *   serve_client plain SOCKET PAGE_SIZE PROCESSES SECONDS
  *
  * It prints how many commits there were a second. `plain` sends a page and waits for the answer. */
-#include <rughvadi_connect.h>
-
-#include <stdio.h>
-#include <stdlib.h>
-#include <string.h>
-#include <sys/socket.h>
-#include <sys/wait.h>
-#include <time.h>
-#include <unistd.h>
+#include "together.h"
 
 static uint8_t token[RUGHVADI_TOKEN], page[65536];
 static size_t page_size;
 static double seconds;
-
-static void must(uint32_t fault, const char *what) {
-  if (fault != RUGHVADI_DONE) {
-    fprintf(stderr, "serve_client: %s: fault 0x%x\n", what, fault);
-    exit(1);
-  }
-}
-
-static double now(void) {
-  struct timespec time;
-  clock_gettime(CLOCK_MONOTONIC, &time);
-  return (double)time.tv_sec + (double)time.tv_nsec / 1e9;
-}
+static rughvadi_link own_link;
+static int plain = -1; /* the stream, where it is no link */
+static uint64_t all;
 
 /* Adds one to the counter of a page of the client's own. */
 static uint32_t count_up(rughvadi_link *link, void *own) {
@@ -50,15 +32,6 @@ static uint64_t by_link(rughvadi_link *link, uint32_t own) {
   return count;
 }
 
-static void whole(int fd, void *bytes, size_t size, bool sends) {
-  for (size_t at = 0; at < size;) {
-    ssize_t moved = sends ? write(fd, (char *)bytes + at, size - at)
-                          : read(fd, (char *)bytes + at, size - at);
-    must(moved <= 0, "plain");
-    at += (size_t)moved;
-  }
-}
-
 static uint64_t by_frames(int fd, uint32_t own) {
   uint64_t count = 0, number;
   static uint8_t frame[4 + sizeof page];
@@ -70,15 +43,6 @@ static uint64_t by_frames(int fd, uint32_t own) {
     whole(fd, &number, sizeof number, false);
   }
   return count;
-}
-
-/* The start of all at once: it comes as the parent closes its end. */
-static void await_start(int ready, int start) {
-  char none;
-  whole(ready, &(char){1}, 1, true);
-  if (read(start, &none, 1) != 0) {
-    exit(1);
-  }
 }
 
 /* The name at this place of a list, as often round as needed. */
@@ -121,50 +85,28 @@ static void by_served(rughvadi_link *link, char **words, uint32_t client) {
   must(rughvadi_link_open(link, &limits, client, incarnation, fd), "open");
 }
 
-static uint64_t run(char **words, uint32_t client, int ready, int start) {
+static void open_one(char **words, uint32_t client) {
   if (strcmp(words[1], "plain") == 0) {
-    int fd;
     page_size = strtoul(words[3], NULL, 10);
-    must(rughvadi_dial(words[2], &fd), "dial");
-    await_start(ready, start);
-    return by_frames(fd, client);
+    must(rughvadi_dial(words[2], &plain), "dial");
+  } else {
+    (strcmp(words[1], "gateway") == 0 ? by_gateway : by_served)(&own_link, words, client);
   }
-  rughvadi_link link;
-  (strcmp(words[1], "gateway") == 0 ? by_gateway : by_served)(&link, words, client);
-  await_start(ready, start);
-  return by_link(&link, client);
 }
 
+static void work(uint32_t client, void *count) {
+  *(uint64_t *)count = plain >= 0 ? by_frames(plain, client) : by_link(&own_link, client);
+}
+
+static void add_count(const void *count) { all += *(const uint64_t *)count; }
+
 int main(int count, char **words) {
+  static const struct party party = {open_one, work, add_count, sizeof all};
   if (count < 6) {
     return 2;
   }
-  int processes = atoi(words[count - 2]), ready[2], start[2], counts[2], status, failed = 0;
   seconds = atof(words[count - 1]);
-  must(pipe(ready) || pipe(start) || pipe(counts), "pipe");
-  for (int client = 0; client < processes; client++) {
-    if (fork() == 0) {
-      close(start[1]);
-      uint64_t done = run(words, (uint32_t)client, ready[1], start[0]);
-      whole(counts[1], &done, sizeof done, true);
-      _exit(0);
-    }
-  }
-  /* Where one fails, what the others say isn't waited for. */
-  close(ready[1]);
-  close(counts[1]);
-  for (int client = 0; client < processes; client++) {
-    whole(ready[0], &(char){0}, 1, false);
-  }
-  close(start[1]);
-  uint64_t all = 0, done;
-  for (int client = 0; client < processes; client++) {
-    whole(counts[0], &done, sizeof done, false);
-    all += done;
-  }
-  while (wait(&status) > 0) {
-    failed |= status;
-  }
+  int failed = together(&party, words, atoi(words[count - 2]));
   printf("%.0f\n", (double)all / seconds);
-  return failed != 0;
+  return failed;
 }
