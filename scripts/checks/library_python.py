@@ -56,7 +56,7 @@ def alone(path, *words):
 def wheel_is_installed(tries, it):
     """The wheel in an environment of its own: its name, an example, and its tests."""
     wheels = [path.name for path in it.python.parent.glob("*.whl")]
-    right = wheels == [f"rughvadi-1.0.0-cp311-abi3-linux_{platform.machine()}.whl"]
+    right = wheels == [f"rughvadi-1.1.0-cp311-abi3-linux_{platform.machine()}.whl"]
     tries.told("wheel's name", right, "\n".join(wheels) or "none is there")
     if not right:
         return
