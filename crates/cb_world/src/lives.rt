@@ -193,6 +193,7 @@ impl<Q: Chooser> Lives<Q> {
         ensures answer { IfOk result (λ a. IsAnswerOf self.old floor number a) }
         ensures stopped { OnErr result (self.new.stopped ≡ true) }
         ensures kept { OnErr result (self.new.told ≡ self.old.told) }
+        ensures packets { self.new.net.packets ≡ self.old.net.packets }
         ensures limits { self.new.limits ≡ self.old.limits }
         ensures stays { self.old.stopped ≡ true → IsErr result }
     {
@@ -255,6 +256,7 @@ impl<Q: Chooser> Lives<Q> {
         })) self.new) }
         ensures stopped { OnErr result (self.new.stopped ≡ true) }
         ensures kept { OnErr result (self.new.told ≡ self.old.told) }
+        ensures packets { self.new.net.packets ≡ self.old.net.packets }
         ensures limits { self.new.limits ≡ self.old.limits }
         ensures stays { self.old.stopped ≡ true → IsErr result }
     {
@@ -298,6 +300,7 @@ impl<Q: Chooser> Lives<Q> {
         })) self.new) }
         ensures stopped { OnErr result (self.new.stopped ≡ true) }
         ensures kept { OnErr result (self.new.told ≡ self.old.told) }
+        ensures packets { self.new.net.packets ≡ self.old.net.packets }
         ensures limits { self.new.limits ≡ self.old.limits }
         ensures stays { self.old.stopped ≡ true → IsErr result }
     {
