@@ -52,7 +52,7 @@ def run(tool: str, folder: Path, names: list[str], about: str) -> int:
         status = answered(tool, folder, names, about)
         sys.stdout.flush()
         return status
-    except building.NotBuilt as why:
+    except (building.NotBuilt, building.WrongWords) as why:
         print(why, file=sys.stderr)
         return 2
     except BrokenPipeError:
