@@ -100,7 +100,8 @@ def table(calls: list[list], below: Path | None) -> None:
     print(f"all {whole / 60:.0f} processor minutes in {clock:.0f} of the clock", end="")
     print(f": {whole / peer:.1f} times the {peer:.0f} s of {PEER}" if peer else "")
     lost = [it for it in building.listed() if not found[it]["proof"] + found[it]["program"]]
-    print(f"not proved in this run, and in no sum: {', '.join(lost)}" if lost else "all were proved")
+    names = ", ".join(lost)
+    print(f"not proved in this run, and in no sum: {names}" if lost else "all were proved")
 
 
 def run_of(clone: Path, log: Path, is_anew: bool) -> int:
