@@ -25,7 +25,6 @@ import os
 import re
 import shutil
 import subprocess
-import sys
 from dataclasses import dataclass, field
 from pathlib import Path
 from shlex import quote
@@ -140,8 +139,7 @@ def parsed(words: list[str]) -> tuple[str, Path | None, list[str]] | None:
 
 def main(words: list[str]) -> int:
     if (given := parsed(words)) is None:
-        print("scripts/check readme [--all|--list|--built FOLDER] [PAGE..]", file=sys.stderr)
-        return 2
+        raise building.WrongWords("scripts/check readme [--all|--list|--built FOLDER] [PAGE..]")
     option, built, names = given
     with building.a_room() as room:
         top, env = building.TOP, dict(os.environ)

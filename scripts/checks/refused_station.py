@@ -1,6 +1,5 @@
 """Plays all calls of a station, each growth refused in turn: `check refused station`."""
 import shutil
-from pathlib import Path
 
 import building
 from checks.refusing import Refusing
@@ -44,9 +43,6 @@ def refused_in_turn(room):
     return int(growths == 0 or failed > 0)
 
 
-def main(words):
-    if words:
-        Path(words[0]).mkdir(parents=True, exist_ok=True)
-        return refused_in_turn(Path(words[0]).resolve())
+def main(_words):
     with building.a_room() as room:
         return refused_in_turn(room)

@@ -125,8 +125,7 @@ def main(words: list[str]) -> int:
         return 0
     folders = [it for it in words if it != "--kept"]
     if len(folders) > 1 or any(it.startswith("-") for it in folders):
-        print("scripts/check times ([--kept] [FOLDER] | --of LOG)", file=sys.stderr)
-        return 2
+        raise building.WrongWords("scripts/check times ([--kept] [FOLDER] | --of LOG)")
     clone = Path(folders[0] if folders else f"{tempfile.mkdtemp(prefix='gate-times-')}/clone")
     log = clone.with_name(f"{clone.name}.calls")
     status = run_of(clone, log.absolute(), "--kept" not in words)
