@@ -25,6 +25,10 @@ class NotBuilt(Exception):
     """A program isn't built: the text says which, and the last lines of why."""
 
 
+class WrongWords(Exception):
+    """The words of a command line are wrong: the text says which there may be."""
+
+
 @contextmanager
 def a_room(folder: str | None = None) -> Iterator[Path]:
     """A folder of its own while the body runs: in that of ROOM, else in the system's."""

@@ -39,6 +39,13 @@ def free_port() -> int:
         return probe.getsockname()[1]
 
 
+def conninfo(*clusters: Cluster) -> str:
+    """What finds the first of these that serves."""
+    hosts = ",".join("127.0.0.1" for _ in clusters)
+    ports = ",".join(str(it.port) for it in clusters)
+    return f"host={hosts} port={ports} user=postgres dbname=postgres"
+
+
 class Cluster:
     """A cluster in a folder that is made for it: a new one, or a copy that follows another."""
 
@@ -57,7 +64,7 @@ class Cluster:
 
     @property
     def address(self) -> str:
-        return f"host=127.0.0.1 port={self.port} user=postgres dbname=postgres"
+        return conninfo(self)
 
     def run(self, name: str, *words: object, is_checked: bool = True) -> str:
         done = subprocess.run([str(FOLDER / name), *map(str, words)], user=self.user, cwd=self.room,

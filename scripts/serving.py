@@ -1,4 +1,5 @@
 """What check and bench of a served store share: the programs, and a gateway with its files."""
+import contextlib
 import os
 import resource
 import signal
@@ -131,6 +132,11 @@ class Gateway:
         except OSError:
             return []
         return [int(it) for it in text.split()]
+
+    def kill_servers(self) -> None:
+        for number in self.servers():
+            with contextlib.suppress(ProcessLookupError):
+                os.kill(number, signal.SIGKILL)
 
     def stop(self, how: signal.Signals = signal.SIGTERM) -> int:
         """Ends it; its status."""

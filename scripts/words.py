@@ -9,6 +9,18 @@ from pathlib import Path
 import building
 
 HELP = {"--help", "-h", "help"}
+# The words of each tool.
+WORDS = {
+    "check": [
+        "docs", "readme", "model", "wrong", "load", "times", "faults", "refused", "killed", "lent",
+        "schedules", "sides", "limits", "files", "memory", "library", "serve", "storm", "takeover",
+        "lives", "all",
+    ],
+    "bench": [
+        "play", "run", "shelf", "client", "server", "station", "frames", "twoq", "library", "serve",
+        "database",
+    ],
+}
 
 
 def help_of(folder: Path, word: str) -> str:
@@ -28,8 +40,9 @@ def done_by(folder: Path, word: str, words: list[str]) -> int:
     return importlib.import_module(f"{folder.name}.{word}").main(words)
 
 
-def answered(tool: str, folder: Path, names: list[str], about: str) -> int:
+def answered(tool: str, folder: Path, about: str) -> int:
     """Does what the command line says; the status."""
+    names = WORDS[tool]
     word, *rest = sys.argv[1:] or ["--help"]
     if word in HELP:
         print(about.strip(), end="\n\n")
@@ -46,13 +59,13 @@ def answered(tool: str, folder: Path, names: list[str], about: str) -> int:
     return done_by(folder, word, rest)
 
 
-def run(tool: str, folder: Path, names: list[str], about: str) -> int:
+def run(tool: str, folder: Path, about: str) -> int:
     """The tool's status: that of the word; 2 where there is none, or a program isn't built."""
     try:
-        status = answered(tool, folder, names, about)
+        status = answered(tool, folder, about)
         sys.stdout.flush()
         return status
-    except building.NotBuilt as why:
+    except (building.NotBuilt, building.WrongWords) as why:
         print(why, file=sys.stderr)
         return 2
     except BrokenPipeError:

@@ -4,17 +4,18 @@
 
 Each job is a transaction of its own (WAL, synchronous FULL). In turn: `run`, whose clients all
 fight for pages 0 and 1; the program own_pages, whose clients have two pages each that no other
-uses, or all the same two; kit_jobs over the same database library as these; and jobs.c over
-SQLite's own library, that also with 32 jobs in a transaction. It prints durable jobs a second of
-each, and how many batches carried the commits of own_pages, with the number of aborted tries. Last
-come the rows of a table, of each program: its least, its median and its greatest rate; the ratio of
-its median to that of SQLite alone, and to that of its own runs of one client; and, as the medians
-of the turns, how many tries were aborted a job and how many commits a batch had.
+uses, or all the same two; and jobs.c over SQLite's own library, that also with 32 jobs in a
+transaction. What the database library takes by itself `scripts/bench database` says. It prints
+durable jobs a second of each, and how many batches carried the commits of own_pages, with the
+number of aborted tries. Last come the rows of a table, of each program: its least, its median and
+its greatest rate; the ratio of its median to that of SQLite alone, and to that of its own runs of
+one client; and, as the medians of the turns, how many tries were aborted a job and how many commits
+a batch had.
 
-It needs SQLite's C library with its header, and the programs, which are built first unless PLAY,
-OWN and ALONE (kit_jobs) name built ones. ROOM is the folder of the stores (the system's temporary
-one if it isn't set). SYNC makes each sync of a file take so many microseconds longer, in all
-programs alike, as on a slower disk. A turn of 40,000 jobs takes some minutes.
+It needs SQLite's C library with its header, and the programs, which are built first unless PLAY and
+OWN name built ones. ROOM is the folder of the stores (the system's temporary one if it isn't set).
+SYNC makes each sync of a file take so many microseconds longer, in all programs alike, as on a
+slower disk. A turn of 40,000 jobs takes some minutes.
 """
 import os
 import re
@@ -28,7 +29,6 @@ OWN = [
     "cb_page", "cb_twoq", "cb_commit", "cb_admission", "cb_station", "cb_shelf", "cb_worker",
     "cb_run", "sqlite", "anyhow",
 ]
-ALONE = ["cb_run", "sqlite", "anyhow"]
 CONFIG = "clients = {}\npages = 2\npage_size = 16\nslots = 2\njobs = {}\n"
 
 
@@ -82,10 +82,8 @@ def timed(rates, name, count, words, slow_sync):
 
 def turn(rates, number, jobs, room, programs):
     """One turn of each program."""
-    play, own, alone, in_c, slow_sync = programs
+    play, own, in_c, slow_sync = programs
     few, many = jobs // 4, jobs // 32 * 32
-    words = [alone, room / f"kit_{number}.db", few]
-    timed(rates, "the kit's library alone", few, words, slow_sync)
     words = [in_c, room / f"alone_{number}.db", few]
     timed(rates, "SQLite alone", few, words, slow_sync)
     together = [in_c, room / f"together_{number}.db", jobs, 32]
@@ -105,11 +103,10 @@ def main(words):
     jobs, turns = map(int, (words + ["40000", "3"][len(words) :])[:2])
     rates = Rates()
     with building.a_room() as room:
-        first, other = [f"{room}/first.db", "1", "1", "own"], [f"{room}/first_alone.db", "1"]
+        first = [f"{room}/first.db", "1", "1", "own"]
         programs = (
             building.play("PLAY"),
             building.named("OWN") or building.program("own_pages", OWN, first, room),
-            building.named("ALONE") or building.program("kit_jobs", ALONE, other, room),
             building.in_c("jobs", room, "-lsqlite3"),
             building.library_in_c("sync", room, "-ldl"),
         )

@@ -47,11 +47,6 @@ class Edit:
         found = [line.partition(": ") for line in self.lines]
         return [(key, text.split()) for key, _, text in found if key in RUNS]
 
-    def text(self) -> str:
-        """As it stands in a file of edits."""
-        key = KINDS[self.is_tested]
-        return "\n".join([f"{key}: {self.name}", *self.lines]) + "\n"
-
     def changed(self, crate: Path) -> dict[str, str] | None:
         """The files' texts with the edit; None where an old text doesn't stand there once."""
         sources: dict[str, str] = {}

@@ -16,7 +16,6 @@ status is 1 if a run failed.
 """
 import os
 import subprocess
-import sys
 import time
 from collections import defaultdict
 from functools import cache
@@ -24,6 +23,7 @@ from pathlib import Path
 
 import building
 from building import TOP
+from words import WORDS
 
 CHECK = TOP / "scripts/check"
 LISTS = sorted(str(it) for it in (TOP / "crates/cb_play/data").glob("*_*.list"))
@@ -40,8 +40,9 @@ RUNS = [
 ]
 # What PROGRAM names for a run, where it isn't built anew: a crate and what it left.
 PLAY, TESTS = "cb_play/out/cb_play", "cb_tests/out/cb_tests_tests"
-PROGRAMS = dict.fromkeys(["faults", "sides", "schedules", "limits", "refused calls"], PLAY)
-PROGRAMS |= {"refused plays": PLAY, "refused run": TESTS, "load": TESTS}
+LAYER_TESTS = "cb_layer_tests/out/cb_layer_tests_tests"
+PROGRAMS = dict.fromkeys(["faults", "sides", "schedules", "limits", "refused calls"], [PLAY])
+PROGRAMS |= {"refused plays": [PLAY], "refused run": [TESTS], "load": [LAYER_TESTS, TESTS]}
 
 
 def gate(calls: str | None, below: Path | None, room: Path) -> tuple[Path, list[list[str]]]:
@@ -57,7 +58,7 @@ def program_in(below: Path, named: str) -> Path:
     name, program = named.partition("/")[0], below / "crates" / named
     if program.exists():
         return program
-    flags = ["--test"] if named == TESTS else []
+    flags = ["--test"] if named in (TESTS, LAYER_TESTS) else []
     return building.linked(TOP / "crates" / name, building.libraries_of(name), below, *flags)
 
 
@@ -66,8 +67,9 @@ def environment(below: Path, words: list[str]) -> dict[str, str]:
     found = {**os.environ, "BELOW": str(below)}
     if words[0] in ("killed", "serve", "storm", "lives"):
         found["PLAY"] = str(program_in(below, PLAY))
-    named = PROGRAMS.get(" ".join(words[:2]), PROGRAMS.get(words[0]))
-    return {**found, "PROGRAM": str(program_in(below, named))} if named else found
+    named = PROGRAMS.get(" ".join(words[:2]), PROGRAMS.get(words[0], []))
+    programs = os.pathsep.join(str(program_in(below, it)) for it in named)
+    return {**found, "PROGRAM": programs} if programs else found
 
 
 def library_stands(below: Path) -> None:
@@ -106,9 +108,10 @@ def table(came: dict[str, list[tuple[bool, float]]]) -> None:
 
 def main(words: list[str]) -> int:
     known = {word for word, _ in RUNS} | {"times"}
+    if lost := {*WORDS["check"]} - known - {"all"}:
+        raise building.WrongWords(f"scripts/check all has no run of {' '.join(sorted(lost))}")
     if not {*words} <= known:
-        print(f"scripts/check all: the words are {' '.join(sorted(known))}", file=sys.stderr)
-        return 2
+        raise building.WrongWords(f"scripts/check all: the words are {' '.join(sorted(known))}")
     came = defaultdict(list)
     with building.a_room() as room:
         below, first = gate(os.environ.get("CALLS"), building.named("BELOW"), room)

@@ -7,20 +7,18 @@ import signal
 import socket
 import stat
 import struct
-import subprocess
 import time
 from pathlib import Path
 from typing import Callable
 
+from checks.frames import (
+    ASK_READ, ASK_WRITE, CALLBACK, COMMIT, GRANTED, HEADER, HELLO, MAY_WRITE, WELCOME, frame,
+    of_commit, of_page, of_read,
+)
+from checks.trying import ran, sanitizer_fault
 from serving import Gateway, wait_for
 
-HEADER = struct.Struct(">BBHQI")
-HELLO, ASK_READ, ASK_WRITE, COMMIT, WELCOME, GRANTED, CALLBACK = 1, 2, 3, 6, 65, 66, 68
 PATIENCE, SILENCE = 1, 3
-
-
-def frame(kind: int, client: int, incarnation: int, body: bytes = b"", version: int = 2) -> bytes:
-    return HEADER.pack(version, kind, client, incarnation, len(body)) + body
 
 
 class Peer:
@@ -104,19 +102,15 @@ def token_of(gateway: Gateway, client: int) -> bytes:
     return next(bytes.fromhex(token) for number, token in lines if int(number) == client)
 
 
-def number_of(transaction: int, page: int) -> bytes:
-    return struct.pack(">QI", transaction, page)
-
-
 def wrote(gateway: Gateway, client: int, page: int) -> bool:
     """Whether a client gets to write a page that others may hold: it asks until it may."""
     with Peer(gateway, client) as peer:
         peer.welcome()
-        peer.say(ASK_READ, number_of(1, page))
+        peer.say(ASK_READ, of_read(1, page))
         kind, body = peer.hear()
         grant = body[4:12]
-        peer.say(ASK_WRITE, number_of(1, page) + grant)
-        return kind == 66 and peer.hear()[0] == 67
+        peer.say(ASK_WRITE, of_read(1, page) + grant)
+        return kind == GRANTED and peer.hear()[0] == MAY_WRITE
 
 
 # ---- before it is greeted ----
@@ -157,8 +151,7 @@ def long_header(peer: Peer) -> bytes:
 
 
 def wrong_frames(gateway: Gateway) -> bool:
-    page = bytes(4096)
-    commit = struct.pack(">QH", 1, 65) + 65 * (struct.pack(">IQI", 0, 1, 4096) + page)
+    commit = of_commit(1, *65 * [of_page(0, 1, bytes(4096))])
     wrong: list[Callable[[Peer], None]] = [
         lambda peer: peer.say(HELLO, client=peer.client + 1),
         lambda peer: peer.say(HELLO, incarnation=peer.incarnation + 1),
@@ -191,9 +184,9 @@ def cut_frames(gateway: Gateway) -> bool:
             peer.socket.sendall(bytes([byte]))
         if peer.hear()[0] != WELCOME:
             return False
-        peer.say(ASK_READ, number_of(1, 5))
+        peer.say(ASK_READ, of_read(1, 5))
         peer.hear()
-        peer.socket.sendall(frame(ASK_READ, peer.client, peer.incarnation, number_of(1, 6))[:20])
+        peer.socket.sendall(frame(ASK_READ, peer.client, peer.incarnation, of_read(1, 6))[:20])
         # What it held goes to another once it was left.
         return wrote(gateway, 2, 5) and peer.is_closed()
 
@@ -216,7 +209,7 @@ def never_reads(gateway: Gateway) -> bool:
     with Peer(gateway, 1) as peer:
         peer.welcome()
         peer.socket.setsockopt(socket.SOL_SOCKET, socket.SO_RCVBUF, 4096)
-        ask = frame(ASK_READ, peer.client, peer.incarnation, number_of(1, 9))
+        ask = frame(ASK_READ, peer.client, peer.incarnation, of_read(1, 9))
         try:
             for _ in range(2000):
                 peer.socket.sendall(ask)
@@ -231,7 +224,7 @@ def never_answers(gateway: Gateway) -> bool:
     """One that reads a page, and says nothing as it is called back."""
     with Peer(gateway, 1) as peer:
         peer.welcome()
-        peer.say(ASK_READ, number_of(1, 11))
+        peer.say(ASK_READ, of_read(1, 11))
         peer.hear()
         begun = time.monotonic()
         right = wrote(gateway, 2, 11)
@@ -262,7 +255,7 @@ def drawn_peer(gateway: Gateway, drawn: random.Random) -> None:
     with Peer(gateway, drawn.randrange(8)) as peer:
         for _ in range(drawn.randrange(60)):
             kind = drawn.choice([HELLO, ASK_READ, drawn.randrange(9), drawn.randrange(256)])
-            body = {ASK_READ: number_of(1, drawn.randrange(64))}.get(kind, b"")
+            body = {ASK_READ: of_read(1, drawn.randrange(64))}.get(kind, b"")
             said = frame(kind, peer.client, peer.incarnation, body)
             if drawn.random() < 0.02:
                 said = drawn.randbytes(len(said))
@@ -323,8 +316,7 @@ def by_tcp(gateway: Gateway) -> bool:
 def server_dies(gateway: Gateway) -> bool:
     with Peer(gateway, 1) as peer:
         peer.welcome()
-        for number in gateway.servers():
-            os.kill(number, signal.SIGKILL)
+        gateway.kill_servers()
         if not peer.is_closed():
             return False
         last = peer.incarnation
@@ -336,11 +328,10 @@ def slow_reader_goes(gateway: Gateway) -> bool:
     with Peer(gateway, 1) as peer:
         last = peer.welcome().incarnation
         for page in range(100):
-            peer.say(ASK_READ, number_of(1, page % 64))
+            peer.say(ASK_READ, of_read(1, page % 64))
         with Peer(gateway, 2) as other:
             other.welcome()
-        for number in gateway.servers():
-            os.kill(number, signal.SIGKILL)
+        gateway.kill_servers()
         if not wait_for(lambda: comes(gateway, last, 3), 60):
             return False
         try:
@@ -365,9 +356,9 @@ def says_again(gateway: Gateway) -> bool:
     """What the server wants back is said again, while nobody else says anything."""
     with Peer(gateway, 1) as peer, Peer(gateway, 2) as other:
         for each in (peer, other):
-            each.welcome().say(ASK_READ, number_of(1, 3))
+            each.welcome().say(ASK_READ, of_read(1, 3))
             body = each.hear()[1]
-        other.say(ASK_WRITE, number_of(1, 3) + body[4:12])
+        other.say(ASK_WRITE, of_read(1, 3) + body[4:12])
         return [peer.hear()[0] for _ in range(3)] == 3 * [CALLBACK]
 
 
@@ -391,10 +382,8 @@ def ends_in_order(gateway: Gateway) -> bool:
 def refused(gateway: Gateway, *words: object) -> tuple[int, str]:
     """How a gateway ends that is started with other words."""
     store = [gateway.room / "config", gateway.database()]
-    done = subprocess.run(
-        [str(it) for it in (gateway.program, *words, *store, "--", gateway.play, "serve")],
-        capture_output=True, text=True, timeout=120, check=False,
-    )
+    command = (gateway.program, *words, *store, "--", gateway.play, "serve")
+    done = ran(*command, text=True, timeout=120)
     return done.returncode, done.stderr
 
 
@@ -436,19 +425,14 @@ SCENES = [
 
 
 def tried(tries, it) -> None:
-    """Plays each scene at one gateway, and looks whether a sanitizer found something."""
+    """Plays each scene at one gateway, in whose log no sanitizer may have a line."""
     words = ["--patience", str(PATIENCE), "--silence", str(SILENCE), "--buffer", "262144"]
     gateway = it.served("bad_input", *words, limits=(8, 64, 4096, 32, 1), has_port=True)
     patient = it.served("again", "--silence", "0", limits=(8, 64, 4096, 32, 0))
     for scene in [*SCENES, says_again]:
         at = patient if scene is says_again else gateway
-        try:
-            right, why = scene(at), at.log()[-1000:]
-        except (OSError, EOFError, struct.error, subprocess.SubprocessError) as fault:
-            right, why = False, f"{at.log()[-1000:]}{fault!r}"
-        tries.told(f"gateway: {scene.__name__.replace('_', ' ')}", right, "" if right else why)
+        tries.scene("gateway", scene, at, log=at.log)
     gateway.stop()
     patient.stop()
-    log = gateway.log() + patient.log()
-    found = "AddressSanitizer" in log or "runtime error" in log or "LeakSanitizer" in log
-    tries.told("gateway: the sanitizers", not found, log[-3000:] if found else "nothing found")
+    found = sanitizer_fault(gateway.log() + patient.log())
+    tries.told("gateway: the sanitizers", not found, found or "nothing found")

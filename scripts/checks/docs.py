@@ -4,9 +4,9 @@
 
 - The examples that crates show in the doc comment of src/lib.rt, between lines of three backticks:
   each line is one of the test that compiles and runs it, in the same order.
-- Each program that a page shows under a remark with a file's name is that file, byte for byte; under
-  a remark that begins with `part of`, it is a part of the file. EMBEDDING, README and TUTORIAL show
-  some.
+- Each program that a page shows under a remark with a file's name is that file, byte for byte;
+  under a remark that begins with `part of`, it is a part of the file. EMBEDDING, README and
+  TUTORIAL show some.
 - The map, docs/MAP.md: the groups of crates.txt, each with its crates, in the same order; each file
   that it names of a crate is one of its sources; and each crate stands only on crates above it.
 - scripts/contracts runs, and prints a part of each crate of crates.txt, but of cb_tests.
@@ -26,6 +26,7 @@ import subprocess
 
 from building import TOP
 from bodies import edits
+from words import WORDS
 
 # The crates that show an example, and where the test of each stands.
 EXAMPLES = {
@@ -163,10 +164,9 @@ def lost_links() -> list[str]:
         lost = [it for it in links if "://" not in it and not (page.parent / it).exists()]
         wrong += [f"{page.name}: no {it}" for it in lost]
         wrong += [f"{page.name}: no {it}" for it in lost_anchors(page)]
-        for tool, folder in [("check", "checks"), ("bench", "benches")]:
-            words = set(re.findall(rf"scripts/{tool}\s+([a-z]+)", page.read_text()))
-            there = {path.stem for path in (TOP / "scripts" / folder).glob("*.*")}
-            wrong += [f"{page.name}: no scripts/{tool} {it}" for it in sorted(words - there)]
+        for tool, there in WORDS.items():
+            said = set(re.findall(rf"scripts/{tool}\s+([a-z]+)", page.read_text()))
+            wrong += [f"{page.name}: no scripts/{tool} {it}" for it in sorted(said - {*there})]
     named = re.findall(r"`((?:crates|docs|scripts)/[\w./]*)", (TOP / "README.md").read_text())
     wrong += [f"README.md: no {it}" for it in named if "NAME" not in it and not (TOP / it).exists()]
     return wrong

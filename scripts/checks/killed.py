@@ -18,11 +18,11 @@ import os
 import random
 import re
 import signal
-import sqlite3
 import subprocess
 import time
 
 import building
+from checks.trying import file_faults, numbers, ran, rows_of
 
 CLIENTS = [1, 2, 4, 8, 32]
 
@@ -47,21 +47,18 @@ def killed(told, settings, store, room, after):
 
 def counted(play, settings, store):
     """What `run` with no job says of a store."""
-    words = [play, "run", settings, store]
-    ran = subprocess.run(words, capture_output=True, text=True, timeout=60, check=False)
-    told = re.fullmatch(r"committed 0\nsum (\d+)\n", ran.stdout)
-    return int(told[1]) if told and ran.returncode == 0 else None
+    done = ran(play, "run", settings, store, text=True, timeout=60)
+    told = re.fullmatch(r"committed 0\nsum (\d+)\n", done.stdout)
+    return int(told[1]) if told and done.returncode == 0 else None
 
 
 def held(store):
-    """Whether the file is whole, the last commit's number, the pages' versions and counters."""
-    with sqlite3.connect(store) as tables:
-        whole = tables.execute("PRAGMA integrity_check").fetchone()[0]
-        number = tables.execute("SELECT commits FROM mark2").fetchone()[0]
-        versions = [row[0] for row in tables.execute("SELECT version FROM page2 ORDER BY no")]
-        bodies = [row[0] for row in tables.execute("SELECT body FROM part ORDER BY no, place")]
-    tables.close()
-    return whole, number, versions, [int.from_bytes(body[:8], "big") for body in bodies]
+    """What is wrong with the file; the last commit's number, the pages' versions and counters."""
+    ((number,),) = rows_of(store, "SELECT commits FROM mark2")
+    versions = [it for (it,) in rows_of(store, "SELECT version FROM page2 ORDER BY no")]
+    bodies = [it for (it,) in rows_of(store, "SELECT body FROM part ORDER BY no, place")]
+    counters = [int.from_bytes(body[:8], "big") for body in bodies]
+    return file_faults(store), number, versions, counters
 
 
 def counted_kills(told, play, room, kills, seed):
@@ -80,21 +77,21 @@ def counted_kills(told, play, room, kills, seed):
         if not os.path.exists(store):
             continue
         total = counted(play, config(room, clients, 0), store)
-        whole, number, versions, counters = held(store)
+        faults, number, versions, counters = held(store)
         before[store] = number
-        found = whole, versions, counters, total
-        right = found == ("ok", [number, number], [number, number], 2 * number)
+        found = faults, versions, counters, total
+        right = found == ([], [number, number], [number, number], 2 * number)
         if not right or number < first + done:
             bad += 1
-            told = f"FAILED, {first} and {done} done before;"
-            print(f"kill {kill}, {clients} clients: {told}", number, *found)
+            failed = f"FAILED, {first} and {done} done before;"
+            print(f"kill {kill}, {clients} clients: {failed}", number, *found)
     print(f"{kills} kills, {ended} of them after the run had ended,", end=" ")
     print(f"{answered} jobs answered as done, {bad} stores wrong")
     return 1 if bad else 0
 
 
 def main(words):
-    kills, seed = int((words or ["200"])[0]), int((words[1:] or ["1"])[0])
+    _, (kills, seed) = numbers(words, "killed [KILLS [SEED]]", 200, 1)
     with building.a_room() as room:
         told = building.named("TOLD") or building.killed_runs(room)
         return counted_kills(told, building.play("PLAY"), room, kills, seed)

@@ -19,6 +19,7 @@ from pathlib import Path
 
 import building
 import serial
+from checks.trying import numbers
 
 LIBRARIES = [
     "cb_page", "cb_admission", "cb_run", "cb_shelf", "cb_station", "cb_twoq",
@@ -59,7 +60,7 @@ def counted(program: Path, room: Path, runs: int, seed: int) -> int:
 
 
 def main(words: list[str]) -> int:
-    runs, seed = int((words or ["200"])[0]), int((words[1:] or ["1"])[0])
+    _, (runs, seed) = numbers(words, "lent [RUNS [SEED]]", 200, 1)
     with building.a_room() as room:
         first = [room / "first.db", 2, 2, 10, 1]
         program = building.named("LENT") or building.program(

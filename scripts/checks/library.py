@@ -31,7 +31,6 @@ written for its rustc, 1.63. Which one was tried has a line of its own. The libr
 is there it takes some minutes. The status is 1 where one failed.
 """
 import os
-import sqlite3
 import subprocess
 import sys
 import time
@@ -42,35 +41,18 @@ from subprocess import DEVNULL
 import building
 from checks import docs, library_hosts, library_python
 from checks.library_hosts import of_rust
+from checks.trying import FAULTS, Tries, numbers, ran, rows_of
 
 FLAGS = ["-std=c11", "-D_GNU_SOURCE", "-g", "-O1", "-Wall", "-Wextra", "-Wpedantic", "-Werror"]
 SANITIZERS = ["-fsanitize=address,undefined", "-fno-sanitize-recover=all"]
 HOSTS = building.TOP / "hosts"
-SOAKS = ["lossy", "random_calls", "refused_growths", "link", "sending", "tries", "drops"]
-SOAKS += ["addresses"]
+# The programs in C that call the library in one process, with the name of each one's run.
+SOAKS = {
+    "refused_growths": "refused growths", "random_calls": "random calls",
+    "link": "links at their end", "sending": "sendings that end early", "tries": "tries of a job",
+    "drops": "drops that wait", "addresses": "several addresses",
+}
 EACH = 100
-
-
-class Tries:
-    """What was tried so far: how many passed, how many failed."""
-
-    def __init__(self):
-        self.passed = self.failed = 0
-
-    def told(self, name, right, said):
-        """Counts one, and writes its line."""
-        self.passed, self.failed = self.passed + right, self.failed + (not right)
-        last = said.splitlines()
-        print(": ".join([name, "ok", *last[-1:]] if right else [name, "FAILED"]), flush=True)
-        if not right:
-            print("\n".join(last[-20:]), flush=True)
-
-    def command(self, name, *words, **variables):
-        """Runs a command to its end, with these variables besides."""
-        both = {"stdout": subprocess.PIPE, "stderr": subprocess.STDOUT, "text": True}
-        env = {**os.environ, **{key: str(value) for key, value in variables.items()}}
-        done = subprocess.run(list(map(str, words)), env=env, **both, check=False)
-        self.told(name, done.returncode == 0, done.stdout)
 
 
 @dataclass
@@ -100,7 +82,7 @@ def compile_all(tries, it):
     """Compiles the programs in C."""
     compiler = os.environ.get("CC", "cc")
     words = [compiler, *FLAGS, f"-I{it.top}/include", f"-I{HOSTS}/c/tests"]
-    for name in SOAKS:
+    for name in [*SOAKS, "lossy"]:
         source = HOSTS / f"c/tests/{name}.c"
         made = [*SANITIZERS, source, it.archive, "-o", it.room / name]
         tries.command(f"build {name}", *words, *made)
@@ -110,13 +92,8 @@ def compile_all(tries, it):
 
 def run_soaks(tries, it, seeds):
     """The programs in C that call the library in one process."""
-    tries.command("refused growths", it.room / "refused_growths")
-    tries.command("random calls", it.room / "random_calls", 1, 1_000_000)
-    tries.command("links at their end", it.room / "link")
-    tries.command("sendings that end early", it.room / "sending")
-    tries.command("tries of a job", it.room / "tries")
-    tries.command("drops that wait", it.room / "drops")
-    tries.command("several addresses", it.room / "addresses")
+    for name, told in SOAKS.items():
+        tries.command(told, it.room / name, *([1, 1_000_000] if name == "random_calls" else []))
     for seed in range(1, seeds + 1):
         tries.command(f"lossy frames, seed {seed}", it.room / "lossy", seed, 2000)
         tries.command(f"and lives, seed {seed}", it.room / "lossy", seed, 2000, "lives")
@@ -127,8 +104,7 @@ def run_without_lives(tries, it, seeds):
     """Of servers that know no client of a former one's, some seed is to show what is stale."""
     said = []
     for seed in range(1, seeds + 1):
-        words = [it.room / "lossy", str(seed), "2000", "new"]
-        done = subprocess.run(words, capture_output=True, text=True, check=False)
+        done = ran(it.room / "lossy", seed, 2000, "new", text=True)
         said.append("stale" if ": not so: " in done.stderr else done.stdout + done.stderr)
     right, stale = "stale" in said, said.count("stale")
     tries.told("without lives", right, f"{stale} of {seeds} seeds show it" if right else said[0])
@@ -189,11 +165,9 @@ def run_examples(tries, it):
         if failed := count_together(it):
             tries.told(name, False, failed)
             return
-        database = sqlite3.connect(it.room / "pages.db")
-        (page,) = database.execute("SELECT data FROM pages WHERE page = 5").fetchone()
-        (number,) = database.execute("SELECT number FROM mark").fetchone()
-        database.close()
-    except (OSError, sqlite3.Error, TypeError) as why:
+        ((page,),) = rows_of(it.room / "pages.db", "SELECT data FROM pages WHERE page = 5")
+        ((number,),) = rows_of(it.room / "pages.db", "SELECT number FROM mark")
+    except FAULTS as why:
         tries.told(name, False, str(why))
         return
     counter, wanted = int.from_bytes(page[:8], "little"), 3 * EACH
@@ -217,12 +191,6 @@ def tried(room, built, seeds):
 
 
 def main(words):
-    built = [word for word in words if word == "--built"]
-    counts = [word for word in words if word != "--built"]
-    if len(counts) > 1 or not all(word.isdecimal() for word in counts):
-        print("scripts/check library [--built] [SEEDS]", file=sys.stderr)
-        return 2
+    built, (seeds,) = numbers(words, "library [--built] [SEEDS]", 10)
     with building.a_room() as room:
-        tries = tried(room, built, int((counts or ["10"])[0]))
-    print(f"library: {tries.passed} passed, {tries.failed} failed")
-    return 1 if tries.failed else 0
+        return tried(room, built, seeds).status("library")

@@ -18,10 +18,11 @@ import struct
 import subprocess
 import sys
 from contextlib import contextmanager
-from pathlib import Path
 
 import building
 import serving
+from checks.frames import HEADER
+from checks.trying import said
 
 C = building.TOP / "hosts/c"
 FLAGS = ["-std=c11", "-D_GNU_SOURCE", "-O2", "-Wall", "-Wextra", "-Wpedantic"]
@@ -37,16 +38,6 @@ EACH = 50
 LIMITS = ["8", "64", "1024", "16", "4", "8", "0"]
 # After so many bytes the store is served at the other address, so often at least.
 TURN, TURNS = "60000", 3
-
-
-def said(*words, env=None, cwd=None):
-    """Runs a command with this environment; whether it ended well, and all that it wrote."""
-    both = {"stdout": subprocess.PIPE, "stderr": subprocess.STDOUT, "text": True}
-    try:
-        done = subprocess.run(list(map(str, words)), env=env, cwd=cwd, **both, check=False)
-    except FileNotFoundError as why:
-        return False, str(why)
-    return done.returncode == 0, done.stdout
 
 
 def analyse(tries, it):
@@ -162,12 +153,11 @@ def counted(fresh, server):
 
 def asked_once(path):
     """The incarnation that the server tells client 7, who asks by a header alone; else 0."""
-    header = struct.Struct(">BBHQI")
     try:
         with socket.socket(socket.AF_UNIX) as stream:
             stream.connect(str(path))
-            stream.sendall(header.pack(2, 0, 7, 0, 0))
-            *begins, incarnation, length = header.unpack(stream.recv(16, socket.MSG_WAITALL))
+            stream.sendall(HEADER.pack(2, 0, 7, 0, 0))
+            *begins, incarnation, length = HEADER.unpack(stream.recv(16, socket.MSG_WAITALL))
     except (OSError, struct.error):
         return 0
     return incarnation if [*begins, length] == [2, 0, 7, 0] else 0

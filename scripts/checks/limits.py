@@ -21,17 +21,20 @@ ends with how many were right; the status is 1 where one isn't.
 import itertools
 import os
 import struct
-import subprocess
 import tempfile
 from concurrent.futures import ThreadPoolExecutor
 from pathlib import Path
 
 import building
+from checks import frames
+from checks.frames import (
+    ASK_READ, ASK_WRITE, COMMIT, DONE, GRANTED, HELLO, MAY_WRITE, WELCOME, of_commit, of_read,
+    of_write,
+)
+from checks.trying import ran
 
 COMMITS = 120_000
 NAMES = ["clients", "pages", "page_size", "slots", "kin", "kout", "keep_write"]
-HELLO, ASK_READ, ASK_WRITE, COMMIT = 1, 2, 3, 6
-WELCOME, GRANTED, MAY_WRITE, DONE = 65, 66, 67, 69
 
 
 def beside_powers(least, most):
@@ -209,7 +212,7 @@ def schedules():
 
 def frame(kind, body=b"", client=0, version=2):
     """A frame of incarnation 1, in hexadecimal digits."""
-    return (struct.pack(">BBHQI", version, kind, client, 1, len(body)) + body).hex()
+    return frames.frame(kind, client, 1, body, version).hex()
 
 
 class Bodies:
@@ -218,8 +221,7 @@ class Bodies:
     def __init__(self, given):
         self.page, size = given["pages"] - 1, given["page_size"]
         self.size, self.old, self.new = size, bytes(size), bytes([7]) * size
-        self.ask = struct.pack(">QI", 1, self.page)
-        self.want = struct.pack(">QIQ", 1, self.page, 1)
+        self.ask, self.want = of_read(1, self.page), of_write(1, self.page, 1)
         self.done = struct.pack(">QQ", 1, 1)
 
     def granted(self, version):
@@ -228,7 +230,7 @@ class Bodies:
 
     def commit(self, version):
         size = struct.pack(">H" if version == 1 else ">I", self.size)
-        return struct.pack(">QHIQ", 1, 1, self.page, 1) + size + self.new
+        return of_commit(1, struct.pack(">IQ", self.page, 1) + size + self.new)
 
 
 def of_client(given, version):
@@ -315,7 +317,7 @@ class Calls:
         return path
 
     def is_right(self, name, words, wanted, stdin=b""):
-        done = subprocess.run([self.program, *words], input=stdin, capture_output=True, check=False)
+        done = ran(self.program, *words, input=stdin)
         if (done.returncode, done.stderr, done.stdout) == (0, b"", wanted):
             return True
         pairs = itertools.zip_longest(done.stdout.split(b"\n"), wanted.split(b"\n"))
@@ -362,7 +364,7 @@ def served(clients, commits, past=0):
         said.append(frame(WELCOME, b"", client))
         for txn in range(1, commits + 1):
             number = past + len(dones) + 1
-            stream.append(frame(COMMIT, struct.pack(">QH", txn, 0), client))
+            stream.append(frame(COMMIT, of_commit(txn), client))
             dones.append(frame(DONE, struct.pack(">QQ", txn, number), client))
     return bytes.fromhex("".join(said + dones)), bytes.fromhex("".join(stream))
 

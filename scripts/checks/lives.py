@@ -26,22 +26,21 @@ import os
 import random
 import shutil
 import signal
-import sqlite3
-import subprocess
 import sys
 import time
 from collections import Counter
 from contextlib import suppress
-from dataclasses import dataclass, field
+from dataclasses import dataclass
 from pathlib import Path
 
 import building
 import serial
 import serving
-from checks.library import Tries
-from serving import Gateway, wait_for
+from checks.built import Built
+from checks.killing import Workers, in_series
+from checks.trying import Tries, file_faults, numbers, ran
+from serving import Gateway
 
-WORKER = building.PROGRAMS / "python/serial_worker.py"
 HELD_UP = building.PROGRAMS / "python/held_up.py"
 CLIENTS, READER, PAGES = 6, 6, 6
 LIMITS = (8, PAGES, 4096, 8, 1)
@@ -55,8 +54,7 @@ class Service:
     """A gateway whose clock can be set, its server, and clients that log what they do."""
 
     gateway: Gateway
-    env: dict[str, str]
-    workers: list[subprocess.Popen] = field(default_factory=list)
+    workers: Workers
     hours: int = 0
 
     def set_clock(self) -> None:
@@ -64,33 +62,12 @@ class Service:
         self.hours = -1 - self.hours
         serving.put_clock(self.gateway.room, self.hours * HOUR)
 
-    def log(self, client: int) -> Path:
-        return self.gateway.room / f"log_{client}"
-
-    def worker(self, client: int, *words: str) -> subprocess.Popen:
-        told = [sys.executable, WORKER, self.gateway.socket, self.gateway.tokens, client, PAGES,
-                self.log(client), *words]
-        return subprocess.Popen(list(map(str, told)), env=self.env)
-
-    def sizes(self) -> list[int]:
-        logs = map(self.log, range(CLIENTS))
-        return [it.stat().st_size if it.exists() else 0 for it in logs]
-
-    def goes_on(self) -> bool:
-        """Whether each client commits again, and none has ended."""
-        before = self.sizes()
-
-        def all_more() -> bool:
-            return all(new > old + 1000 for old, new in zip(before, self.sizes()))
-
-        return wait_for(all_more, 120.0) and all(it.poll() is None for it in self.workers)
-
     def kill(self, drawn: random.Random) -> None:
         """Kills server and gateway, in a drawn order."""
         process = self.gateway.process
-        numbers = [*self.gateway.servers(), process.pid if process else 0]
-        drawn.shuffle(numbers)
-        for number in filter(None, numbers):
+        processes = [*self.gateway.servers(), process.pid if process else 0]
+        drawn.shuffle(processes)
+        for number in filter(None, processes):
             with suppress(ProcessLookupError):
                 os.kill(number, signal.SIGKILL)
         self.gateway.stop(signal.SIGKILL)
@@ -110,7 +87,7 @@ class Service:
     def killed_at_work(self, drawn: random.Random) -> str:
         """Starts both, and kills them while clients commit."""
         self.gateway.start()
-        if not self.goes_on():
+        if not self.workers.all_go_on(1000):
             return ""
         time.sleep(drawn.uniform(0.0, 0.2))
         self.kill(drawn)
@@ -135,46 +112,25 @@ def kills_of(service: Service, count: int, drawn: random.Random) -> Counter:
     return came
 
 
-def end_of(service: Service) -> list[str]:
-    """The work goes on once more, and a last client reads all; what is wrong."""
-    service.gateway.start()
-    wrong = [] if service.goes_on() else ["the work doesn't go on"]
-    for worker in service.workers:
-        worker.kill()
-        worker.wait()
-    reader = service.worker(READER, "all")
-    try:
-        status = reader.wait(120)
-    except subprocess.TimeoutExpired:
-        reader.kill()
-        status = reader.wait()
-    wrong += [] if status == 0 else ["no client could read all pages"]
-    wrong += [] if service.gateway.stop() == 0 else ["the gateway didn't end in order"]
-    with sqlite3.connect(service.gateway.database()) as tables:
-        whole = tables.execute("PRAGMA integrity_check").fetchone()[0]
-    tables.close()
-    return wrong + ([] if whole == "ok" else [f"the file: {whole}"])
-
-
 def run_kills(tries: Tries, service: Service, count: int, seed: int) -> None:
-    drawn = random.Random(seed)
-    service.workers = [service.worker(client) for client in range(CLIENTS)]
+    gateway, workers = service.gateway, service.workers
+    workers.begin()
     try:
-        came = kills_of(service, count, drawn)
-        wrong = end_of(service)
+        came = kills_of(service, count, random.Random(seed))
+        gateway.start()
+        wrong = [] if workers.all_go_on(1000) else ["the work doesn't go on"]
+        workers.end()
+        verdict = workers.judged(READER)
+        wrong += [] if gateway.stop() == 0 else ["the gateway didn't end in order"]
     finally:
-        for worker in service.workers:
-            worker.kill()
-            worker.wait()
-        service.gateway.stop(signal.SIGKILL)
-    logs = sorted(service.gateway.room.glob("log_*"))
-    for log in logs if "KEEP" in os.environ else []:
+        workers.end()
+        gateway.stop(signal.SIGKILL)
+    for log in workers.logs() if "KEEP" in os.environ else []:
         shutil.copy(log, os.environ["KEEP"])
-    verdict = serial.judge(logs)
+    wrong += verdict.faults[:10] + file_faults(gateway.database())
     kills = ", ".join(f"{number} {when}" for when, number in sorted(came.items()) if when)
     said = f"{sum(came.values())} kills ({kills}); {str(verdict).splitlines()[0]}"
-    right = not wrong and not verdict.faults and "" not in came
-    tries.told("kills under clocks", right, "\n".join([*wrong, *verdict.faults[:10], said]))
+    tries.told("kills under clocks", not wrong and "" not in came, "\n".join([*wrong, said]))
 
 
 # ---- a commit that is held up ----
@@ -184,8 +140,7 @@ def run_held_up(tries: Tries, room: Path, env: dict[str, str], ways: dict[str, l
     """At each server: the commit of a former life comes to nothing, and all is serial."""
     for name, words in ways.items():
         log = room / f"held_up_{len(list(room.glob('held_up_*')))}"
-        told = list(map(str, [sys.executable, HELD_UP, log, *words]))
-        done = subprocess.run(told, env=env, capture_output=True, text=True, check=False)
+        done = ran(sys.executable, HELD_UP, log, *words, env=env, text=True)
         verdict = serial.judge([log]) if done.returncode == 0 else serial.Verdict()
         found = verdict.faults[0] if verdict.faults else "strictly serial"
         is_lifeless = words == ["none"]
@@ -195,34 +150,25 @@ def run_held_up(tries: Tries, room: Path, env: dict[str, str], ways: dict[str, l
 
 
 def main(words: list[str]) -> int:
-    built = [word for word in words if word == "--built"]
-    counts = [word for word in words if word != "--built"]
-    if len(counts) > 2 or not all(word.isdecimal() for word in counts):
-        print("scripts/check lives [--built] [KILLS [SEED]]", file=sys.stderr)
-        return 2
-    kills, seed = map(int, counts + ["200", "1"][len(counts) :])
+    built, (kills, seed) = numbers(words, "lives [--built] [KILLS [SEED]]", 200, 1)
     tries = Tries()
     with building.a_room() as room:
-        lib, play = serving.library(room, built), building.play("PLAY")
-        flags = f"CFLAGS={serving.SANITIZERS}"
-        gateway = serving.made(Path("hosts/gateway"), room, flags) / "gateway"
-        serve = serving.made(Path("hosts/serve"), room, f"LIBRARY={lib}") / "rughvadi-serve"
-        host = serving.in_c(building.TOP / "hosts/served.c", room, lib, "-lsqlite3")
-        env = {**os.environ, "PYTHONPATH": f"{lib}/share/rughvadi/python"}
-        run_held_up(tries, room, env, {
+        it = Built(room, built)
+        host = serving.in_c(building.TOP / "hosts/served.c", room, it.library, "-lsqlite3")
+        run_held_up(tries, room, it.env, {
             "no life": ["none"],
             "a life": ["life"],
-            "cb_play": ["pipes", play, "serve"],
-            "rughvadi-serve": ["pipes", serve],
+            "cb_play": ["pipes", it.play, "serve"],
+            "rughvadi-serve": ["pipes", it.serve],
             "the host in C": ["socket", host],
             "the host in Python": ["socket", sys.executable,
                                    building.TOP / "hosts/python/examples/server.py"],
         })
         own = room / "kills"
         own.mkdir()
-        it = Gateway(own, gateway, play, words=("--silence", "5"), limits=LIMITS,
-                     env=serving.set_clock(own))
-        it.make_files()
-        run_kills(tries, Service(it, env), kills, seed)
-    print(f"lives: {tries.passed} passed, {tries.failed} failed")
-    return 1 if tries.failed else 0
+        gateway = Gateway(own, it.gateway, it.play, words=("--silence", "5"), limits=LIMITS,
+                          env=serving.set_clock(own))
+        gateway.make_files()
+        starts = in_series(lambda _: gateway.socket, gateway.tokens, PAGES)
+        run_kills(tries, Service(gateway, Workers(own, it.env, CLIENTS, starts)), kills, seed)
+    return tries.status("lives")

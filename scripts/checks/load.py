@@ -11,9 +11,9 @@ A line for each test: its name, how many of its runs failed, and the longest in 
 that failed the last lines that it wrote stand above.
 
 It needs the tests that the gate or `rt test` built in this checkout, those of crates/cb_layer_tests
-and of crates/cb_tests, in the folder `out` of each; PROGRAM names others. It takes more than RUNS
-times as long as the tests do, since the machine is busy. The status is 1 where a run failed, and 2
-where there is no test to run.
+and of crates/cb_tests, in the folder `out` of each; PROGRAM names others, with a colon between two.
+It takes more than RUNS times as long as the tests do, since the machine is busy. The status is 1
+where a run failed, and 2 where there is no test to run.
 """
 import os
 import subprocess
@@ -21,6 +21,7 @@ import sys
 import time
 from concurrent.futures import ThreadPoolExecutor
 from contextlib import contextmanager
+from pathlib import Path
 
 import building
 
@@ -70,9 +71,9 @@ def show(name, runs):
 
 
 def built_tests():
-    """The programs that run tests: the one that PROGRAM names, else those of both crates."""
-    if given := building.named("PROGRAM"):
-        return [given]
+    """The programs that run tests: those that PROGRAM names, else those of both crates."""
+    if given := os.environ.get("PROGRAM"):
+        return [Path(it).resolve() for it in given.split(os.pathsep)]
     return [building.TOP / f"crates/{crate}/out/{crate}_tests" for crate in CRATES]
 
 

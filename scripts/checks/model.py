@@ -55,7 +55,7 @@ def tells_bounds(crate):
     wanted = world_model.played(config, schedule)
     others = [world_model.played(other, schedule) for other in other_bounds(config)]
     is_told = wanted not in others
-    print(f"{NAME}: {'other bounds print' if is_told else 'NOT so that other bounds print'} another")
+    print(f"{NAME}: other bounds {'print another' if is_told else 'DO NOT print another'}")
     return is_told
 
 

@@ -13,8 +13,8 @@ the clone, which has what was committed here. A PAGE is a name, as README.md or 
 With --built the programs of FOLDER/crates/*/out are copied into the clone, and a command `rt`
 stands first in the path, by which `rt run` of a crate that has one proves nothing: it takes what is
 there. The library is the archive that stands in FOLDER, else it is built over the crates that `rt
-ci` built there. FOLDER may also have just the program cb_play and librughvadi.a. All else is done by
-`rt` itself.
+ci` built there. FOLDER may also have just the program cb_play and librughvadi.a. All else is done
+by `rt` itself.
 
 It needs `rt`; the long ones also what scripts/install needs, cargo, pkg-config and sqlite3. The
 short commands take some five processor minutes, since two of them compile the whole program. A line
@@ -25,7 +25,6 @@ import os
 import re
 import shutil
 import subprocess
-import sys
 from dataclasses import dataclass, field
 from pathlib import Path
 from shlex import quote
@@ -140,8 +139,7 @@ def parsed(words: list[str]) -> tuple[str, Path | None, list[str]] | None:
 
 def main(words: list[str]) -> int:
     if (given := parsed(words)) is None:
-        print("scripts/check readme [--all|--list|--built FOLDER] [PAGE..]", file=sys.stderr)
-        return 2
+        raise building.WrongWords("scripts/check readme [--all|--list|--built FOLDER] [PAGE..]")
     option, built, names = given
     with building.a_room() as room:
         top, env = building.TOP, dict(os.environ)

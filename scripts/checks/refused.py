@@ -5,8 +5,7 @@
     scripts/check refused plays [NAME..]   plays of NAME.toml and NAME.schedule, or of two of
                                            cb_play's, and a draw
     scripts/check refused shelf            a shelf over a new file, and over one with older tables
-    scripts/check refused station [ROOM]   all calls of a station, in a folder that stays, or in one
-                                           that is removed
+    scripts/check refused station          all calls of a station
     scripts/check refused run              a run of two clients, and each thread that it makes
     scripts/check refused growths [MOST]   tests that accept want of memory, with the first growths
                                            refused (12)
@@ -46,7 +45,8 @@ already. `growths` builds the tests anew for each number, which takes minutes. T
 a call ended in another way.
 """
 import importlib
-import sys
+
+import building
 
 KINDS = ["calls", "plays", "shelf", "station", "run", "growths"]
 
@@ -54,6 +54,5 @@ KINDS = ["calls", "plays", "shelf", "station", "run", "growths"]
 def main(words):
     kind, *rest = words or [""]
     if kind not in KINDS:
-        print(f"scripts/check refused ({'|'.join(KINDS)})", file=sys.stderr)
-        return 2
+        raise building.WrongWords(f"scripts/check refused ({'|'.join(KINDS)})")
     return importlib.import_module(f"checks.refused_{kind}").main(rest)

@@ -1,36 +1,27 @@
 """Refuses each growth of lists that are played to one side alone: `check refused calls`."""
 import gzip
-import os
-import subprocess
 from collections import Counter
-from concurrent.futures import ThreadPoolExecutor
 from pathlib import Path
 from tempfile import NamedTemporaryFile
 
 import building
+from checks.refusing import Refusing, several
 
-KINDS = {
-    1: "Hello", 2: "AskRead", 3: "AskWrite", 4: "GiveBack", 5: "InUse", 6: "Commit", 7: "Drop",
-    8: "Downgraded", 65: "Welcome", 66: "Granted", 67: "MayWrite", 68: "Callback", 69: "Done",
-    70: "AbortNow", 71: "Downgrade",
-}
+TO_SERVER = "Hello AskRead AskWrite GiveBack InUse Commit Drop Downgraded".split()
+TO_CLIENT = "Welcome Granted MayWrite Callback Done AbortNow Downgrade".split()
+KINDS = {**dict(enumerate(TO_SERVER, 1)), **dict(enumerate(TO_CLIENT, 65))}
 # How a list ends where the program was refused memory for itself.
-OWN_END = (4, "memory")
+OWN_END = (4, ["memory"])
 # What came of a refused growth.
 WITHIN, PROGRAM_S, OTHER = "within the side", "the program's own", "ANOTHER END"
 
 
 def played(programs, lines, refused=0):
-    """Status, output and error where that growth is refused, and how many growths there were."""
-    program, library = programs
-    with_it = {**os.environ, "LD_PRELOAD": str(library), "REFUSED": str(refused)}
+    """What comes of a list where that growth is refused."""
     with NamedTemporaryFile("w", suffix=".list") as it:
         it.write("\n".join(lines) + "\n")
         it.flush()
-        words = [program, "sides", it.name]
-        done = subprocess.run(words, env=with_it, capture_output=True, text=True, timeout=60)
-    *said, growths, _ = done.stderr.split("\n")
-    return done.returncode, done.stdout, "\n".join(said), int(growths)
+        return programs.run("sides", it.name, refused=refused)
 
 
 def lists_of(paths):
@@ -72,10 +63,10 @@ def owners(programs, lines, pool):
     places = [at for at, kind in enumerate(does) if kind]
 
     def growths(at):
-        return played(programs, [*lines[: at + 1], *without[at:]])[3]
+        return played(programs, [*lines[: at + 1], *without[at:]]).growths
 
     counts = list(pool.map(growths, [*places, len(does)]))
-    unmade = played(programs, [unread(lines[0]), *without])[3]
+    unmade = played(programs, [unread(lines[0]), *without]).growths
     belongs = dict.fromkeys(range(unmade + 1, counts[0] + 1), f"{side}: new")
     for place, first, end in zip(places, counts, counts[1:]):
         belongs.update(dict.fromkeys(range(first + 1, end + 1), does[place]))
@@ -84,10 +75,10 @@ def owners(programs, lines, pool):
 
 def ends(programs, lines, usual, refused):
     """What came of it that this growth was refused."""
-    status, output, said, growths = played(programs, lines, refused)
-    if (status, output, said) == usual[:3]:
-        return WITHIN if growths > usual[3] else OTHER
-    return PROGRAM_S if (status, said) == OWN_END and usual[1].startswith(output) else OTHER
+    came = played(programs, lines, refused)
+    if (came.how, came.output) == (usual.how, usual.output):
+        return WITHIN if came.growths > usual.growths else OTHER
+    return PROGRAM_S if came.how == OWN_END and usual.output.startswith(came.output) else OTHER
 
 
 def told(came, bad):
@@ -106,11 +97,11 @@ def told(came, bad):
 def refused_lists(programs, paths):
     """Plays each list with each of its growths refused; the status."""
     came, bad = Counter(), []
-    with ThreadPoolExecutor(int(os.environ.get("JOBS", "2"))) as pool:
+    with several() as pool:
         for number, lines in enumerate(lists_of(paths), 1):
             usual = played(programs, lines)
             first, belongs = owners(programs, lines, pool)
-            if usual[0] != 0 or max(belongs, default=first) != usual[3]:
+            if usual.status != 0 or max(belongs, default=first) != usual.growths:
                 print(f"list {number}: it isn't played as it stands")
                 return 1
             ended = pool.map(lambda it: (it, ends(programs, lines, usual, it)), belongs)
@@ -128,5 +119,4 @@ def main(paths):
     # (The one list left out has lines that are refused as they are read.)
     lists = [str(it) for it in sorted(data.glob("*.list")) if it.name != "digits_wrong.list"]
     with building.a_room() as room:
-        programs = building.play(), building.library_in_c("refuse", room, "-ldl")
-        return refused_lists(programs, paths or lists)
+        return refused_lists(Refusing(building.play(), room), paths or lists)

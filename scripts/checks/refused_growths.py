@@ -1,8 +1,8 @@
 """Runs tests that accept want of memory, the Nth growth refused: `check refused growths`."""
 import re
-import subprocess
 
 import building
+from checks.trying import said
 
 TESTS = [
     "frame::refused::pages_with_growths_refused",
@@ -19,9 +19,8 @@ def main(words):
     tests = building.TOP / "crates/cb_layer_tests"
     for growth in range(1, most + 1):
         command = [*building.RT, "try", "--test", "--fail-alloc", str(growth)]
-        both = {"stdout": subprocess.PIPE, "stderr": subprocess.STDOUT}
-        said = subprocess.run(command, cwd=tests, **both, text=True, check=False).stdout
-        passed = set(re.findall(r"^test (\S+) \.\.\. ok", said, re.M))
+        _, text = said(*command, cwd=tests)
+        passed = set(re.findall(r"^test (\S+) \.\.\. ok", text, re.M))
         for test in TESTS:
             came = "ok" if test in passed else "FAILED"
             print(f"{test}: growth {growth} refused: {came}", flush=True)

@@ -1,42 +1,35 @@
 """A run of two clients, each growth and each thread refused in turn: `check refused run`."""
-import os
 import subprocess
 from collections import Counter
-from concurrent.futures import ThreadPoolExecutor
 
 import building
+from checks.refusing import Refusing, several
 
 TEST = "running::wanting::ends_well_or_for_want_of_memory"
 # What is printed of how it ended.
 ENDED = "ended: "
-# How long it may take to end, in seconds.
-LIMIT = 60
 
 
 def played(programs, **refused):
     """How the run ended where that is refused; None where the test failed, or didn't end."""
-    test, library = programs
-    with_it = {**os.environ, "LD_PRELOAD": str(library), **refused}
-    both = {"stdout": subprocess.PIPE, "stderr": subprocess.STDOUT}
     try:
-        done = subprocess.run([test, TEST], env=with_it, **both, text=True, timeout=LIMIT)
+        came = programs.run(TEST, **refused)
     except subprocess.TimeoutExpired:
         return None, 0
-    said = done.stdout.splitlines()
-    ended = [line.partition(ENDED)[2] for line in said if ENDED in line]
-    growths = said[-1] if said and said[-1].isdigit() else "0"
-    return ended[0] if ended and done.returncode == 0 else None, int(growths)
+    lines = [*came.output.splitlines(), *came.said]
+    ended = [line.partition(ENDED)[2] for line in lines if ENDED in line]
+    return ended[0] if ended and came.status == 0 else None, came.growths
 
 
 def refused_in_turn(programs):
     """Refuses each growth and each of the two threads; the status."""
     ended, growths = played(programs)
     counts, bad = Counter(), [] if ended == "done" else ["a run of which nothing is refused"]
-    with ThreadPoolExecutor(int(os.environ.get("JOBS", "2"))) as pool:
+    with several() as pool:
         # (How many growths there are differs a little from run to run.)
         runs = range(1, growths + 1)
         for refused, (ended, _) in zip(
-            runs, pool.map(lambda it: played(programs, REFUSED=str(it)), runs)
+            runs, pool.map(lambda it: played(programs, refused=it), runs)
         ):
             counts[ended] += 1
             if ended is None:
@@ -55,4 +48,4 @@ def main(_words):
     tests = building.TOP / "crates/cb_tests/out/cb_tests_tests"
     test = building.named("PROGRAM") or building.built(tests, "")
     with building.a_room() as room:
-        return refused_in_turn((test, building.library_in_c("refuse", room, "-ldl")))
+        return refused_in_turn(Refusing(test, room))

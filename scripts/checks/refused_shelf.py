@@ -2,9 +2,9 @@
 import collections
 import re
 import sqlite3
-import subprocess
 
 import building
+from checks.refusing import Refusing
 
 OLDER = """
 CREATE TABLE page(no INTEGER PRIMARY KEY, version INTEGER NOT NULL, body BLOB NOT NULL) STRICT;
@@ -21,8 +21,8 @@ OUTSIDE = ["connect: 3 Memory", "close: 3 Memory", "memory"]
 class Files:
     """A program over a shelf in a file, and the library that refuses its growths."""
 
-    def __init__(self, program, library, room):
-        self.program, self.library, self.path = program, library, room / "a.db"
+    def __init__(self, program, room):
+        self.programs, self.path = Refusing(program, room), room / "a.db"
 
     def empty(self):
         """Takes the file and its log away."""
@@ -40,15 +40,9 @@ class Files:
 
     def run(self, words, refused):
         """What is printed but for how long it took, and how many growths there were."""
-        said = subprocess.run(
-            [self.program, "refused", self.path, "2", *words],
-            env={"LD_PRELOAD": str(self.library), "REFUSED": str(refused)},
-            capture_output=True,
-            timeout=60,
-        )
-        lines = said.stdout.decode().splitlines()
-        lines = [line for line in lines if not re.fullmatch(r"connect \d+", line)]
-        return lines, int(said.stderr.decode().splitlines()[-1])
+        came = self.programs.run("refused", self.path, "2", *words, refused=refused)
+        lines = came.output.splitlines()
+        return [it for it in lines if not re.fullmatch(r"connect \d+", it)], came.growths
 
     def begun(self, is_older, words, refused):
         """The same over a file from before."""
@@ -93,8 +87,7 @@ def refused_in_turn(files, name, is_older, words):
 
 def main(_words):
     with building.a_room() as room:
-        library = building.library_in_c("refuse", room, "-ldl")
-        files = Files(building.shelf_files(room), library, room)
+        files = Files(building.shelf_files(room), room)
         bad = refused_in_turn(files, "a new file", False, ["4112", "0", "0"])
         bad |= refused_in_turn(files, "older tables", True, ["4096", "3", "7"])
         return int(bad)

@@ -1,10 +1,8 @@
 """Plays all calls of a station, each growth refused in turn: `check refused station`."""
-import os
 import shutil
-import subprocess
-from pathlib import Path
 
 import building
+from checks.refusing import Refusing
 
 CRATES = ["cb_page", "cb_frame", "cb_commit", "cb_hands", "cb_station", "cb_test_parts"]
 TEST = "office::growths::refused_growths"
@@ -33,36 +31,18 @@ def built_tests(room):
     return building.built(crate / "out/station_growths_tests", said)
 
 
-def played(test, library, refused):
-    """The status where that growth is refused, and how many there were."""
-    done = subprocess.run(
-        [test, TEST],
-        env={**os.environ, "LD_PRELOAD": str(library), "REFUSED": str(refused)},
-        stdout=subprocess.PIPE,
-        stderr=subprocess.STDOUT,
-        text=True,
-        check=False,
-    )
-    return done.returncode, int(done.stdout.splitlines()[-1])
-
-
 def refused_in_turn(room):
     """Builds the test, unless PROGRAM names it, and runs it for each growth; the status."""
-    test = building.named("PROGRAM") or built_tests(room)
-    library = building.library_in_c("refuse", room, "-ldl")
-    _, growths = played(test, library, 0)
-    failed = 0
+    test = Refusing(building.named("PROGRAM") or built_tests(room), room)
+    growths, failed = test.run(TEST).growths, 0
     for refused in range(growths + 1):
-        if played(test, library, refused)[0]:
+        if test.run(TEST, refused=refused).status:
             print(f"growth {refused} refused: FAILED", flush=True)
             failed += 1
     print(f"growths {growths}, runs {growths + 1}, failed {failed}")
     return int(growths == 0 or failed > 0)
 
 
-def main(words):
-    if words:
-        Path(words[0]).mkdir(parents=True, exist_ok=True)
-        return refused_in_turn(Path(words[0]).resolve())
+def main(_words):
     with building.a_room() as room:
         return refused_in_turn(room)

@@ -43,71 +43,24 @@ of libuv, SQLite and libpq, rustc and sqlite3. What needs PostgreSQL 15 is left 
 there. Once all is built it takes some ten minutes. The status is 1 where
 something failed.
 """
-import os
+from __future__ import annotations
+
 import random
-import signal
-import sqlite3
 import stat
 import subprocess
 import sys
-from dataclasses import dataclass
 from pathlib import Path
 
 import building
-import serving
 from checks import bad_input, serve_engines, serve_gateway, serve_host, serve_input, serve_lives
 from checks import serve_operators
-from checks.library import Tries
+from checks.built import Built
+from checks.killing import Workers, kill_often
+from checks.trying import Tries, file_faults, numbers, ran, rows_of
 from serving import Gateway, wait_for
 
 TEXTS = building.PROGRAMS / "python"
 WORKERS = 4
-
-
-@dataclass
-class Built:
-    """The programs, and the folder of the check."""
-
-    room: Path
-    library: Path
-    play: Path
-    serve: Path
-    checked_serve: Path  # with ASan and UBSan
-    gateway: Path
-    examples: Path
-
-    @property
-    def env(self) -> dict[str, str]:
-        return {**os.environ, "PYTHONPATH": f"{self.library}/share/rughvadi/python"}
-
-    def served(self, name: str, *words: str, **more) -> Gateway:
-        """A gateway in a folder of its own."""
-        room = self.room / f"served_{name}"
-        room.mkdir()
-        gateway = Gateway(room, self.gateway, self.play, words=words, **more)
-        gateway.start()
-        return gateway
-
-
-def engine_server(room: Path, lib: Path, *settings: str) -> Path:
-    room.mkdir()
-    return serving.made(Path("hosts/serve"), room, f"LIBRARY={lib}", *settings) / "rughvadi-serve"
-
-
-def build(room: Path, words: list[str]) -> Built:
-    lib = serving.library(room, words)
-    # Debian's compiler, the oldest that the crate is written for, where it is there.
-    debian = "/usr/bin/rustc"
-    rustc = os.environ.get("RUSTC") or (debian if os.path.exists(debian) else "rustc")
-    return Built(
-        room,
-        lib,
-        building.play("PLAY"),
-        engine_server(room / "plain", lib),
-        engine_server(room / "checked", lib, f"CFLAGS={serving.SANITIZERS}"),
-        serving.made(Path("hosts/gateway"), room, f"CFLAGS={serving.SANITIZERS}") / "gateway",
-        serving.made(Path("examples"), room, f"LIBRARY={lib}", f"RUSTC={rustc}"),
-    )
 
 
 # ---- the examples ----
@@ -132,10 +85,8 @@ def together(it: Built, commands: list[list], seconds: float = 300.0) -> tuple[b
 
 def counter_of(gateway: Gateway, page: int = 0) -> int:
     """The number that a page of the main store begins with."""
-    with sqlite3.connect(gateway.database()) as tables:
-        rows = tables.execute("SELECT body FROM part WHERE no = ? AND place = 0", (page,))
-        (body,) = rows.fetchone()
-    tables.close()
+    text = "SELECT body FROM part WHERE no = ? AND place = 0"
+    ((body,),) = rows_of(gateway.database(), text, page)
     return int.from_bytes(body[:8], "little", signed=True)
 
 
@@ -191,8 +142,7 @@ def run_gone(tries: Tries, it: Built) -> None:
     pipes = {"stdin": subprocess.PIPE, "stdout": subprocess.PIPE, "text": True}
     with subprocess.Popen(list(map(str, words)), env=it.env, **pipes) as client:
         held = client.stdout.readline()
-        for number in gateway.servers():
-            os.kill(number, signal.SIGKILL)
+        gateway.kill_servers()
         wait_for(lambda: bad_input.comes(gateway, 0, 2), 60)
         said, _ = client.communicate("\n", 60)
     gateway.stop()
@@ -227,97 +177,41 @@ def run_lossy(tries: Tries, it: Built, seed: int) -> None:
 # ---- kills ----
 
 
-class Work:
-    """Workers at a gateway, which are started again where they were killed."""
-
-    def __init__(self, it: Built, gateway: Gateway) -> None:
-        self.it, self.gateway = it, gateway
-        self.workers: dict[int, subprocess.Popen] = {}
-        for client in range(WORKERS):
-            self.start(client)
-
-    def log(self, client: int) -> Path:
-        return self.gateway.room / f"log_{client}"
-
-    def start(self, client: int) -> None:
-        words = [sys.executable, TEXTS / "worker.py", self.gateway.socket, self.gateway.tokens]
-        words += [client, self.log(client)]
-        self.workers[client] = subprocess.Popen(list(map(str, words)), env=self.it.env)
-
-    def answered(self, client: int) -> int:
-        """The last counter that it was answered."""
-        path = self.log(client)
-        numbers = path.read_bytes() if path.exists() else b""
-        whole = len(numbers) // 8 * 8
-        return int.from_bytes(numbers[whole - 8 : whole], "big") if whole else 0
-
-    def total(self) -> int:
-        return sum(self.answered(client) for client in self.workers)
-
-    def ended(self) -> list[int]:
-        """The statuses of workers that ended by themselves."""
-        return [each.poll() for each in self.workers.values() if each.poll() is not None]
-
-    def kill(self, client: int) -> None:
-        self.workers[client].kill()
-        self.workers[client].wait()
-
-    def stop(self) -> None:
-        for client in self.workers:
-            self.kill(client)
+def at_accounts(it: Built, gateway: Gateway) -> Workers:
+    """Clients that move amounts between accounts, and count on pages of their own."""
+    words = [TEXTS / "worker.py", gateway.socket, gateway.tokens]
+    return Workers(gateway.room, it.env, WORKERS, lambda client, log: [*words, client, log])
 
 
-def kill_one(work: Work, drawn: random.Random) -> str:
-    """Kills something; what it was."""
-    what = drawn.choice(["server", "gateway", "client", "all"])
-    gateway = work.gateway
-    if what == "client":
-        client = drawn.randrange(WORKERS)
-        work.kill(client)
-        work.start(client)
-        return what
-    if what in ("server", "all"):
-        for number in gateway.servers():
-            os.kill(number, signal.SIGKILL)
-    if what in ("gateway", "all"):
-        gateway.stop(signal.SIGKILL)
-        gateway.start()
-    return what
+def answered(work: Workers, client: int) -> int:
+    """The last counter that a client was answered: a number of 8 bytes each."""
+    log = work.log(client).read_bytes() if work.log(client).exists() else b""
+    whole = len(log) // 8 * 8
+    return int.from_bytes(log[whole - 8 : whole], "big") if whole else 0
 
 
 def run_kills(tries: Tries, it: Built, kills: int, seed: int) -> None:
-    drawn = random.Random(seed)
     gateway = it.served("kills", "--silence", "5")
-    work, counts, wrong = Work(it, gateway), {}, []
-    for kill in range(kills):
-        before = work.total()
-        if not wait_for(lambda: work.total() > before or work.ended(), 60.0) or work.ended():
-            wrong.append(f"kill {kill}: nothing went on, or workers ended with {work.ended()}")
-            break
-        wait_for(lambda: False, drawn.uniform(0.0, 0.4))
-        what = kill_one(work, drawn)
-        counts[what] = counts.get(what, 0) + 1
-    work.stop()
+    work = at_accounts(it, gateway)
+    work.begin()
+    said, wrong = kill_often(gateway, work, random.Random(seed), kills, 0.4)
+    work.end()
     status = gateway.stop()
-    wrong += table_faults(work)
-    said = ", ".join(f"{count} of {what}" for what, count in sorted(counts.items()))
-    said = f"{sum(counts.values())} kills ({said}), {work.total()} commits answered"
+    wrong += table_faults(work, gateway)
+    said += f", {sum(answered(work, client) for client in range(WORKERS))} commits answered"
     tries.told("kills", not wrong and status == 0, "\n".join([*wrong, said]))
 
 
-def table_faults(work: Work) -> list[str]:
+def table_faults(work: Workers, gateway: Gateway) -> list[str]:
     """What is wrong in the store once all have ended."""
     wrong = []
-    for client in work.workers:
-        counter = counter_of(work.gateway, 8 + client)
-        if counter < work.answered(client):
-            wrong.append(f"client {client}: {work.answered(client)} answered, {counter} stored")
-    if total := sum(counter_of(work.gateway, account) for account in range(8)):
+    for client in range(WORKERS):
+        counter, told = counter_of(gateway, 8 + client), answered(work, client)
+        if counter < told:
+            wrong.append(f"client {client}: {told} answered, {counter} stored")
+    if total := sum(counter_of(gateway, account) for account in range(8)):
         wrong.append(f"the sum is {total}")
-    with sqlite3.connect(work.gateway.database()) as tables:
-        whole = tables.execute("PRAGMA integrity_check").fetchone()[0]
-    tables.close()
-    return wrong + ([f"the file: {whole}"] if whole != "ok" else [])
+    return wrong + file_faults(gateway.database())
 
 
 # ---- copies while it is served ----
@@ -325,14 +219,11 @@ def table_faults(work: Work) -> list[str]:
 
 def copy_faults(copy: Path) -> list[str]:
     """What is wrong with a copy."""
-    with sqlite3.connect(copy) as tables:
-        whole = tables.execute("PRAGMA integrity_check").fetchone()[0]
-        bodies = tables.execute("SELECT body FROM part WHERE no < 8 AND place = 0").fetchall()
-    tables.close()
+    bodies = rows_of(copy, "SELECT body FROM part WHERE no < 8 AND place = 0")
     total = sum(int.from_bytes(body[:8], "little", signed=True) for (body,) in bodies)
     private = stat.S_IMODE(copy.stat().st_mode) & 0o077 == 0 or not copy.name.startswith("client")
-    right = whole == "ok" and total == 0 and len(bodies) == 8 and private
-    return [] if right else [f"{whole}, sum {total}, {copy.stat().st_mode:o}"]
+    right = not file_faults(copy) and total == 0 and len(bodies) == 8 and private
+    return [] if right else [f"{file_faults(copy)}, sum {total}, {copy.stat().st_mode:o}"]
 
 
 def copied_by(it: Built, words: list, copy: Path) -> tuple[bool, list[str]]:
@@ -346,12 +237,13 @@ def copied_by(it: Built, words: list, copy: Path) -> tuple[bool, list[str]]:
 
 def run_copies(tries: Tries, it: Built) -> None:
     gateway = it.served("copies")
-    work = Work(it, gateway)
-    wait_for(lambda: work.total() > 20)
+    work = at_accounts(it, gateway)
+    work.begin()
+    work.all_go_on(20)
     sqlite = ["sqlite3", "-cmd", ".timeout 2000", gateway.database()]
     copier = [sys.executable, building.TOP / "examples/copy_store.py", gateway.socket]
     for name in ("sqlite3's online backup", "VACUUM INTO", "a client"):
-        before, wrong, count = work.total(), [], 0
+        before, wrong, count = sum(work.sizes()), [], 0
         for place in range(5):
             copy = gateway.room / f"{name.split()[-1]}_{place}.db"
             ways = {
@@ -361,13 +253,14 @@ def run_copies(tries: Tries, it: Built) -> None:
             }
             came, found = copied_by(it, ways[name], copy)
             count, wrong = count + came, wrong + found
-        goes_on = wait_for(lambda: work.total() > before + 20, 300)
-        said = f"{count} copies and {5 - count} refused; {work.total() - before} commits meanwhile"
+        goes_on = wait_for(lambda: sum(work.sizes()) > before + 160, 300)
+        meanwhile = (sum(work.sizes()) - before) // 8
+        said = f"{count} copies and {5 - count} refused; {meanwhile} commits meanwhile"
         right = not wrong and goes_on and (count == 5 or name != "a client")
         tries.told(f"copies by {name}", right, "\n".join([*wrong, said]))
-    work.stop()
+    work.end()
     status = gateway.stop()
-    wrong = table_faults(work)
+    wrong = table_faults(work, gateway)
     tries.told("copies: the store itself", not wrong and status == 0, "\n".join(wrong) or "right")
 
 
@@ -384,11 +277,10 @@ def run_turns(tries: Tries, it: Built) -> None:
     """How clients fight, by the library and the gateway's own code over a clock that is no
     machine's; and that without turns it would be worse."""
     flags = [f"-I{building.TOP}/hosts/gateway"]
-    model = serving.in_c(building.PROGRAMS / "c/turns_model.c", it.room, it.library, *flags)
+    model = it.in_c("turns_model", *flags)
 
     def counts(*words: object) -> list[int]:
-        done = subprocess.run([model, *map(str, words)], capture_output=True, text=True, check=True)
-        return list(map(int, done.stdout.split()))
+        return list(map(int, ran(model, *words).stdout.split()))
 
     def is_fair(clients: int, order: str, sync: int, keep: int, way: str) -> tuple[bool, str]:
         one = counts(1, order, sync, keep, way)[0]
@@ -410,13 +302,12 @@ def run_turns(tries: Tries, it: Built) -> None:
 def run_fights(tries: Tries, it: Built) -> None:
     """Clients add to the counters of the same two pages, in one order and in opposite ones: each
     gets its turns, and few tries are in vain."""
-    program = serving.in_c(building.PROGRAMS / "c/fighters.c", it.room, it.library)
+    program = it.in_c("fighters")
     for clients, order in ((8, "same"), (6, "opposite"), (32, "opposite")):
         gateway = it.served(f"fights_{clients}_{order}", limits=(32, 64, 4096, 16, 0))
-        words = [program, gateway.socket, gateway.tokens, "main", clients, 6, order]
-        done = subprocess.run(list(map(str, words)), capture_output=True, text=True, check=False)
+        done = ran(program, gateway.socket, gateway.tokens, "main", clients, 6, order)
         status = gateway.stop()
-        commits, tried, longest, least, most = map(int, (done.stdout or "0 0 0 0 0").split())
+        commits, tried, longest, least, most = map(int, (done.stdout or b"0 0 0 0 0").split())
         counters = [counter_of(gateway, page) for page in (0, 1)]
         right = status == 0 and counters == [commits, commits]
         right = right and tried <= 5 * commits and least > 0
@@ -436,9 +327,9 @@ GATHERED = {
 }
 
 
-# The same of `rughvadi-serve`, whose clients are behind a gateway that hands a frame on in 3.3 us: the
-# third number is of each commit, and the last the mean of a drawn delay. Where a sync takes 3 ms it
-# waits for all, and where it takes 0.1 ms for nobody, if that is better.
+# The same of `rughvadi-serve`, whose clients are behind a gateway that hands a frame on in 3.3 us:
+# the third number is of each commit, and the last the mean of a drawn delay. Where a sync takes 3
+# ms it waits for all, and where it takes 0.1 ms for nobody, if that is better.
 PACED = {
     (2, 100, 5, 3.3, 5): 12400, (4, 100, 5, 3.3, 5): 22200, (16, 100, 5, 3.3, 5): 54000,
     (32, 100, 5, 3.3, 5): 82000, (16, 500, 5, 3.3, 5): 21600, (32, 500, 5, 3.3, 5): 34300,
@@ -447,45 +338,39 @@ PACED = {
 }
 
 
+def gathered(tries: Tries, model: Path, wanted: dict[tuple, int], how: str) -> None:
+    """A model's runs, each with so many commits a second at least."""
+    for words, least in wanted.items():
+        said = ran(model, *words).stdout.decode().strip()
+        name = f"commits of {words[0]} {how}, syncs of {words[1]} us"
+        tries.told(name, int((said or "0").split()[0]) >= least, said)
+
+
 def run_pace(tries: Tries, it: Built) -> None:
     """How `rughvadi-serve` gathers commits, by its own code over a clock that is no machine's."""
     model = building.in_c("pace_model", it.room, f"-I{building.TOP}/hosts/serve", "-lm")
-    for words, least in PACED.items():
-        done = subprocess.run([model, *map(str, words)], capture_output=True, text=True, check=True)
-        name = f"commits of {words[0]}, by other engines, syncs of {words[1]} us"
-        tries.told(name, int(done.stdout.split()[0]) >= least, done.stdout.strip())
+    gathered(tries, model, PACED, "go together, by other engines")
 
 
 def run_gather(tries: Tries, it: Built) -> None:
     """How the gateway gathers commits, by its own code over a clock that is no machine's."""
     flags = ["-D_GNU_SOURCE", f"-I{building.TOP}/hosts/gateway", "-lm"]
     model = building.in_c("gather_model", it.room, *flags)
-    for words, least in GATHERED.items():
-        done = subprocess.run([model, *map(str, words)], capture_output=True, text=True, check=True)
-        name = f"commits of {words[0]} go together, syncs of {words[1]} us"
-        tries.told(name, int(done.stdout.split()[0]) >= least, done.stdout.strip())
-    words = [model, "4", "150", "25", "30", "20", "clockless"]
-    done = subprocess.run(words, capture_output=True, text=True, check=True, timeout=60)
-    right = int(done.stdout.split()[0]) >= 5000
-    tries.told("commits go on without a clock, and one unanswered", right, done.stdout.strip())
-    room = building.in_c("room_model", it.room, *flags)
-    done = subprocess.run([room], capture_output=True, text=True, check=True)
-    first, second, third = map(int, done.stdout.split())
+    gathered(tries, model, GATHERED, "go together")
+    said = ran(model, 4, 150, 25, 30, 20, "clockless", timeout=60).stdout.decode().strip()
+    right = int((said or "0").split()[0]) >= 5000
+    tries.told("commits go on without a clock, and one unanswered", right, said)
+    said = ran(building.in_c("room_model", it.room, *flags)).stdout.decode().strip()
+    first, second, third = map(int, said.split())
     right = first <= 1 << 16 and second <= 1 << 16 and 5 << 20 <= third <= 20 << 20
-    tries.told("room that isn't used is given back", right, done.stdout.strip())
+    tries.told("room that isn't used is given back", right, said)
 
 
 def main(words: list[str]) -> int:
-    built = [word for word in words if word == "--built"]
-    counts = [word for word in words if word != "--built"]
-    if len(counts) > 2 or not all(word.isdecimal() for word in counts):
-        print("scripts/check serve [--built] [KILLS [SEED]]", file=sys.stderr)
-        return 2
-    kills, seed = map(int, counts + ["200", "1"][len(counts) :])
+    built, (kills, seed) = numbers(words, "serve [--built] [KILLS [SEED]]", 200, 1)
     tries = Tries()
     with building.a_room() as room:
-        room.chmod(0o755)  # clusters run as another user
-        it = build(room, built)
+        it = Built(room, built)
         run_gather(tries, it)
         run_pace(tries, it)
         run_turns(tries, it)
@@ -503,5 +388,4 @@ def main(words: list[str]) -> int:
         run_lossy(tries, it, seed)
         run_copies(tries, it)
         run_kills(tries, it, kills, seed)
-    print(f"serve: {tries.passed} passed, {tries.failed} failed")
-    return 1 if tries.failed else 0
+    return tries.status("serve")

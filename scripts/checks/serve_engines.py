@@ -10,17 +10,19 @@ from __future__ import annotations
 import contextlib
 import random
 import shutil
-import sqlite3
 import struct
-import subprocess
 from dataclasses import dataclass, field
 from pathlib import Path
 from typing import Callable, Iterator
 
 import building
 import postgres
-from checks.bad_input import ASK_READ, ASK_WRITE, COMMIT, HEADER, HELLO, frame
-from checks.serve_input import AGAIN, CLIENTS, LIFE, PAGES, Scene
+from checks.frames import (
+    AGAIN, ASK_READ, ASK_WRITE, COMMIT, DOWNGRADED, DROP, GIVE_BACK, HEADER, HELLO, IN_USE, frame,
+    of_commit, of_page, of_read, of_write,
+)
+from checks.serve_input import CLIENTS, LIFE, PAGES, Scene
+from checks.trying import ran, rows_of
 
 PLAY = "cb_play"
 # Frames of a drawn stream, and how many such streams are tried.
@@ -60,31 +62,29 @@ def then(last: int, *more: bytes) -> Callable[[Scene], bytes]:
 def in_version_1(it: Scene) -> bytes:
     """The same in the older version, whose size fields are shorter."""
     pages = it.size.to_bytes(2, "big") + (1).to_bytes(it.size, "big")
-    body = struct.pack(">QH", 1, 1) + struct.pack(">IQ", 0, 1) + pages
+    body = of_commit(1, struct.pack(">IQ", 0, 1) + pages)
     said = [frame(HELLO, 0, it.incarnation, version=1),
-            frame(ASK_READ, 0, it.incarnation, struct.pack(">QI", 1, 0), version=1),
-            frame(ASK_WRITE, 0, it.incarnation, struct.pack(">QIQ", 1, 0, 1), version=1),
+            frame(ASK_READ, 0, it.incarnation, of_read(1, 0), version=1),
+            frame(ASK_WRITE, 0, it.incarnation, of_write(1, 0, 1), version=1),
             frame(COMMIT, 0, it.incarnation, body, version=1)]
     return b"".join(said)
 
 
 def deadlock(it: Scene) -> bytes:
     """Two clients want to write what the other one has read: one is the victim."""
-    reads = [it.say(ASK_READ, client, struct.pack(">QI", 1, page))
+    reads = [it.say(ASK_READ, client, of_read(1, page))
              for client in range(2) for page in range(2)]
-    wants = [it.say(ASK_WRITE, 0, struct.pack(">QIQ", 1, 0, 1)),
-             it.say(ASK_WRITE, 1, struct.pack(">QIQ", 1, 1, 4)),
-             it.say(5, 0, struct.pack(">QIQ", 1, 1, 2)), it.say(5, 1, struct.pack(">QIQ", 1, 0, 3))]
+    wants = [it.say(ASK_WRITE, 0, of_write(1, 0, 1)), it.say(ASK_WRITE, 1, of_write(1, 1, 4)),
+             it.say(IN_USE, 0, of_write(1, 1, 2)), it.say(IN_USE, 1, of_write(1, 0, 3))]
     hellos = [it.say(HELLO, client) for client in range(2)]
     return b"".join([*hellos, *reads, *wants, AGAIN])
 
 
 def about_the_floor(it: Scene) -> bytes:
     """Frames of the floor itself need no Hello; those below it are let go, a Hello, too."""
-    floor, reads = it.incarnation - 1, struct.pack(">QH", 1, 0)
+    floor, reads = it.incarnation - 1, of_commit(1)
     of = {0: floor, 1: floor - 1, 2: floor + 1}
-    asks = [frame(ASK_READ, client, number, struct.pack(">QI", 1, client))
-            for client, number in of.items()]
+    asks = [frame(ASK_READ, client, number, of_read(1, client)) for client, number in of.items()]
     hellos = [frame(HELLO, client, number) for client, number in of.items()]
     commits = [frame(COMMIT, client, number, reads) for client, number in of.items()]
     return b"".join([*asks, hellos[1], *commits, *hellos, *asks, *commits])
@@ -92,8 +92,8 @@ def about_the_floor(it: Scene) -> bytes:
 
 def no_pages(it: Scene) -> bytes:
     """Commits of reads alone."""
-    return it.begins() + b"".join(
-        it.say(COMMIT, client, struct.pack(">QH", 1, 0)) for client in range(CLIENTS))
+    commits = [it.say(COMMIT, client, of_commit(1)) for client in range(CLIENTS)]
+    return it.begins() + b"".join(commits)
 
 
 def drawn(seed: int) -> Callable[[Scene], bytes]:
@@ -115,10 +115,10 @@ def drawn_frame(it: Scene, drawing: random.Random) -> bytes:
     transaction, grant = drawing.randint(1, 4), drawing.randint(0, 8)
     page = drawing.randrange(PAGES + (drawing.random() < 0.03))
     bodies = {
-        1: b"", 2: struct.pack(">QI", transaction, page), 7: struct.pack(">Q", transaction),
-        3: struct.pack(">QIQ", transaction, page, grant), 4: struct.pack(">IQ", page, grant),
-        5: struct.pack(">QIQ", transaction, page, grant), 6: drawn_commit(it, drawing),
-        8: struct.pack(">IQQ", page, grant, transaction),
+        HELLO: b"", ASK_READ: of_read(transaction, page), DROP: struct.pack(">Q", transaction),
+        ASK_WRITE: of_write(transaction, page, grant), GIVE_BACK: struct.pack(">IQ", page, grant),
+        IN_USE: of_write(transaction, page, grant), COMMIT: drawn_commit(it, drawing),
+        DOWNGRADED: struct.pack(">IQQ", page, grant, transaction),
     }
     if drawing.random() < 0.03:
         return AGAIN
@@ -127,9 +127,8 @@ def drawn_frame(it: Scene, drawing: random.Random) -> bytes:
 
 def drawn_commit(it: Scene, drawing: random.Random) -> bytes:
     numbers = sorted(drawing.sample(range(PAGES), drawing.randint(0, 2)))
-    pages = [struct.pack(">IQI", page, drawing.randint(1, 8), it.size) + drawing.randbytes(it.size)
-             for page in numbers]
-    return struct.pack(">QH", drawing.randint(1, 4), len(pages)) + b"".join(pages)
+    pages = [of_page(page, drawing.randint(1, 8), drawing.randbytes(it.size)) for page in numbers]
+    return of_commit(drawing.randint(1, 4), *pages)
 
 
 def streams() -> Iterator[Stream]:
@@ -166,18 +165,16 @@ def rows_of_file(store: Path) -> object:
     """The last commit, and each page's version and bytes, as the tables of a file have them."""
     if not store.exists():
         return None
-    with contextlib.closing(sqlite3.connect(store)) as tables:
-        (mark,) = tables.execute("SELECT commits FROM mark2").fetchall()
-        pages = tables.execute("SELECT no, version FROM page2 ORDER BY no").fetchall()
-        parts = tables.execute("SELECT no, body FROM part ORDER BY no, place").fetchall()
+    (mark,) = rows_of(store, "SELECT commits FROM mark2")
+    pages = rows_of(store, "SELECT no, version FROM page2 ORDER BY no")
+    parts = rows_of(store, "SELECT no, body FROM part ORDER BY no, place")
     bodies = [b"".join(body for of, body in parts if of == no) for no, _ in pages]
     return mark[0], [version for _, version in pages], bodies
 
 
 def schema_of(store: Path) -> list[str]:
     """The texts that made the tables of a store, without the table of lives."""
-    with contextlib.closing(sqlite3.connect(store)) as tables:
-        texts = tables.execute("SELECT sql FROM sqlite_schema WHERE type = 'table'").fetchall()
+    texts = rows_of(store, "SELECT sql FROM sqlite_schema WHERE type = 'table'")
     return [text for (text,) in texts if "life" not in text]
 
 
@@ -225,8 +222,7 @@ def serve_one(scene: Scene, server, given: bytes) -> tuple[int, bytes, bytes]:
     (scene.room / "given").write_bytes(given)
     words = [*server.words, scene.config, server.database(scene)]
     with (scene.room / "given").open("rb") as opened:
-        done = subprocess.run(list(map(str, words)), stdin=opened, capture_output=True,
-                              check=False, timeout=120)
+        done = ran(*words, stdin=opened, timeout=120)
     return done.returncode, done.stdout, done.stderr
 
 
@@ -297,8 +293,7 @@ def stored_run_differs(room: Path, serve: Path, cluster: postgres.Cluster | None
                 continue
             if cluster and database.endswith(".db"):
                 database = f"{cluster.address} application_name={database}"
-            done = subprocess.run([str(serve), config, database], cwd=room, stdin=given,
-                                  capture_output=True, check=False, timeout=120)
+            done = ran(serve, config, database, cwd=room, stdin=given, timeout=120)
             said = done.stdout + done.stderr + f"status {done.returncode}\n".encode()
             if said != wanted:
                 return f"{words}: {said!r} in place of {wanted!r}"

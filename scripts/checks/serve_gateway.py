@@ -14,9 +14,12 @@ from dataclasses import dataclass, field
 from pathlib import Path
 
 import building
-from checks.bad_input import (
-    ASK_READ, ASK_WRITE, CALLBACK, COMMIT, HEADER, HELLO, Peer, frame, number_of, refused, token_of,
+from checks.bad_input import Peer, refused, token_of
+from checks.frames import (
+    ABORT_NOW, ASK_READ, ASK_WRITE, CALLBACK, COMMIT, DROP, GIVE_BACK, GRANTED, HEADER, HELLO,
+    IN_USE, frame, of_read,
 )
+from checks.trying import ran
 from serving import Gateway, wait_for
 
 LIMITS = (8, 64, 256, 32, 1)
@@ -34,6 +37,12 @@ class Scene:
     def stand_in(self, *words: object) -> tuple[object, ...]:
         return (sys.executable, building.PROGRAMS / "python/stand_in.py", *words)
 
+    def served(self, *words: str, **more) -> Gateway:
+        """The same, once its store is served."""
+        gateway = self.gateway(*words, **more)
+        wait_for(lambda: comes(gateway), 60)
+        return gateway
+
     def gateway(self, *words: str, command: tuple[object, ...] = (), **more) -> Gateway:
         """A gateway with these options; over the stand-in, if no command is said."""
         room = Path(tempfile.mkdtemp(dir=self.room))
@@ -44,12 +53,11 @@ class Scene:
         gateway.start()
         return gateway
 
-    def logs(self) -> str:
-        return "".join(each.log() for each in self.begun)
-
-    def end(self) -> None:
+    def end(self) -> str:
+        """Ends all of them; their logs."""
         for each in self.begun:
             each.stop()
+        return "".join(each.log() for each in self.begun)
 
 
 def is_served(gateway: Gateway, client: int, source: str | None = None) -> bool:
@@ -84,15 +92,13 @@ def with_strangers(gateway: Gateway, addresses: list[str | None], client: int) -
 
 
 def strangers_at_the_port(scene: Scene) -> bool:
-    gateway = scene.gateway("--patience", "60", "--greeting", "60", has_port=True)
-    wait_for(lambda: comes(gateway), 60)
+    gateway = scene.served("--patience", "60", "--greeting", "60", has_port=True)
     one = with_strangers(gateway, ["127.0.0.1"], 0)
     return one and with_strangers(gateway, sources(32), 4)
 
 
 def strangers_at_the_socket(scene: Scene) -> bool:
-    gateway = scene.gateway("--patience", "60", "--greeting", "60")
-    wait_for(lambda: comes(gateway), 60)
+    gateway = scene.served("--patience", "60", "--greeting", "60")
     return with_strangers(gateway, [None], 0)
 
 
@@ -107,8 +113,7 @@ def comes(gateway: Gateway, client: int = 7) -> bool:
 def greetings_that_are_there(scene: Scene) -> bool:
     """Who has sent its greeting is welcomed, however many strangers come behind it before the
     gateway looks."""
-    gateway = scene.gateway("--patience", "60", "--greeting", "60", has_port=True)
-    wait_for(lambda: comes(gateway), 60)
+    gateway = scene.served("--patience", "60", "--greeting", "60", has_port=True)
     gateway.process.send_signal(signal.SIGSTOP)
     peers = []
     try:
@@ -135,8 +140,7 @@ def slow_greeting(scene: Scene) -> bool:
 
 def told_of_strangers(scene: Scene) -> bool:
     """Lines name the address; a flood of bad greetings has a line a second, with a count."""
-    gateway = scene.gateway(has_port=True)
-    wait_for(lambda: comes(gateway), 60)
+    gateway = scene.served(has_port=True)
     for _ in range(400):
         with Peer(gateway, None, "127.0.0.9") as peer:
             peer.greeted(bytes(32))
@@ -148,13 +152,12 @@ def told_of_strangers(scene: Scene) -> bool:
 
 # ---- silence ----
 
-GIVE_BACK, IN_USE, DROP, GRANTED, MAY_WRITE, ABORT_NOW = 4, 5, 7, 66, 67, 70
 SILENCE = 2
 
 
 def called_back(peer: Peer, page: int) -> bytes:
     """It reads a page that is wanted back at once; the page and the grant, as bytes."""
-    peer.say(ASK_READ, number_of(1, page))
+    peer.say(ASK_READ, of_read(1, page))
     kinds = [peer.hear() for _ in range(2)]
     assert [kind for kind, _ in kinds] == [GRANTED, CALLBACK]
     return kinds[1][1]
@@ -172,8 +175,7 @@ def goes_on_saying(peer: Peer, said: bytes, seconds: float) -> bool:
 def bytes_are_no_answer(scene: Scene) -> bool:
     """One that owes an answer is closed, whatever else it says: also answers of another page or
     grant."""
-    gateway = scene.gateway("--silence", str(SILENCE), command=scene.stand_in("--recall"))
-    wait_for(lambda: comes(gateway), 60)
+    gateway = scene.served("--silence", str(SILENCE), command=scene.stand_in("--recall"))
     closed = []
     for place in range(4):
         with Peer(gateway, place) as peer:
@@ -183,7 +185,7 @@ def bytes_are_no_answer(scene: Scene) -> bool:
                 frame(HELLO, peer.client, peer.incarnation),
                 frame(GIVE_BACK, peer.client, peer.incarnation, b"\0\0\0\4" + named[4:]),
                 frame(GIVE_BACK, peer.client, peer.incarnation, other),
-                frame(ASK_READ, peer.client, peer.incarnation, number_of(1, 5)),
+                frame(ASK_READ, peer.client, peer.incarnation, of_read(1, 5)),
             ][place]
             closed.append(goes_on_saying(peer, said, 20))
     return closed == 4 * [True] and gateway.log().count("it doesn't answer") == 4
@@ -192,8 +194,7 @@ def bytes_are_no_answer(scene: Scene) -> bool:
 def answers_count(scene: Scene) -> bool:
     """One that gave its answers may say nothing more: that a page is in use, that it goes, that a
     transaction is dropped; and one that goes on with its next transaction."""
-    gateway = scene.gateway("--silence", str(SILENCE), command=scene.stand_in("--recall"))
-    wait_for(lambda: comes(gateway), 60)
+    gateway = scene.served("--silence", str(SILENCE), command=scene.stand_in("--recall"))
     peers = [Peer(gateway, client) for client in range(4)]
     try:
         for peer in peers:
@@ -216,20 +217,18 @@ def answers_count(scene: Scene) -> bool:
 
 def aborts_are_owed(scene: Scene) -> bool:
     """One that is to abort and only says that it is alive is closed."""
-    gateway = scene.gateway("--silence", str(SILENCE), command=scene.stand_in("--recall"))
-    wait_for(lambda: comes(gateway), 60)
+    gateway = scene.served("--silence", str(SILENCE), command=scene.stand_in("--recall"))
     with Peer(gateway, 1) as peer:
-        peer.welcome().say(ASK_WRITE, number_of(1, 3) + bytes(7) + b"\1")
+        peer.welcome().say(ASK_WRITE, of_read(1, 3) + bytes(7) + b"\1")
         right = peer.hear()[0] == ABORT_NOW
         return right and goes_on_saying(peer, frame(HELLO, peer.client, peer.incarnation), 20)
 
 
 def slow_frame(scene: Scene) -> bool:
     """A frame has its time from its first byte: no later one renews it."""
-    gateway = scene.gateway("--patience", "2")
-    wait_for(lambda: comes(gateway), 60)
+    gateway = scene.served("--patience", "2")
     with Peer(gateway, 1) as peer:
-        said = frame(ASK_READ, peer.welcome().client, peer.incarnation, number_of(1, 3))
+        said = frame(ASK_READ, peer.welcome().client, peer.incarnation, of_read(1, 3))
         sent = 0
         while sent < len(said) and not peer.is_closed(0.4):
             sent += peer.says(said[sent : sent + 1])
@@ -300,14 +299,13 @@ def silent_servers(scene: Scene) -> bool:
     """A server that owes an answer and says nothing is ended, whether it owes a Welcome or
     something else; an idle one isn't."""
     mute = scene.room / "mute"
-    gateway = scene.gateway("--server-silence", "2", command=scene.stand_in("--mute", mute))
-    wait_for(lambda: comes(gateway), 60)
+    gateway = scene.served("--server-silence", "2", command=scene.stand_in("--mute", mute))
     first = gateway.servers()
     with Peer(gateway, 1) as peer:
         if peer.welcome().is_closed(8) or gateway.servers() != first:
             return False
         mute.touch()
-        peer.say(ASK_READ, number_of(1, 3))
+        peer.say(ASK_READ, of_read(1, 3))
         asked = peer.is_closed(30)
     wait_for(lambda: gateway.servers() not in ([], first), 60)
     second = gateway.servers()
@@ -335,9 +333,7 @@ def databases_elsewhere(scene: Scene) -> bool:
         quoted = database if database[0] in "'\"" else f"'{database}'"
         (gateway.room / "stores").write_text(f"main {gateway.room}/config {quoted}\n")
         words = [gateway.program, "--unix", gateway.room / "other", "--tokens", gateway.tokens]
-        words += ["--stores", gateway.room / "stores"]
-        done = subprocess.run(list(map(str, words)), capture_output=True, text=True, timeout=60,
-                              check=False)
+        done = ran(*words, "--stores", gateway.room / "stores", text=True, timeout=60)
         refused.append(done.returncode == 2 and done.stderr and "secret" not in done.stderr)
     return all(seen) and all(refused)
 
@@ -349,8 +345,7 @@ def owned_files(scene: Scene) -> bool:
     """What a gateway or its server makes is its owner's alone, whoever's umask it was begun with;
     tokens that another owns aren't taken."""
     note = scene.room / "made_by_a_server"
-    gateway = scene.gateway(command=scene.stand_in("--note", note))
-    wait_for(lambda: comes(gateway), 60)
+    gateway = scene.served(command=scene.stand_in("--note", note))
     lock = Path(f"{gateway.database()}.lock")
     private = [stat.S_IMODE(path.stat().st_mode) for path in (note, lock, gateway.socket)]
     return private == 3 * [0o600] and (os.geteuid() != 0 or owner_counts(gateway))
@@ -372,10 +367,8 @@ def with_held_output(scene: Scene, *words: str) -> tuple[Gateway, Path]:
     """A gateway whose server was killed while a process of its own holds its output."""
     hold = Path(tempfile.mkdtemp(dir=scene.room)) / "hold"
     hold.touch()
-    gateway = scene.gateway(command=scene.stand_in("--hold", hold, *words))
-    wait_for(lambda: comes(gateway), 60)
-    for number in gateway.servers():
-        os.kill(number, signal.SIGKILL)
+    gateway = scene.served(command=scene.stand_in("--hold", hold, *words))
+    gateway.kill_servers()
     wait_for(lambda: "its server ended" in gateway.log(), 60)
     return gateway, hold
 
@@ -410,8 +403,7 @@ def commit_head(peer: Peer, pages: int) -> bytes:
 def bounded_commits(scene: Scene) -> bool:
     """A Commit of more pages than a transaction writes is refused by its header; one of as many
     isn't."""
-    gateway = scene.gateway("--patience", "60")
-    wait_for(lambda: comes(gateway), 60)
+    gateway = scene.served("--patience", "60")
     with Peer(gateway, 1) as right, Peer(gateway, 2) as wrong:
         right.says(commit_head(right.welcome(), LIMITS[3]))
         wrong.says(commit_head(wrong.welcome(), LIMITS[3] + 1))
@@ -431,8 +423,7 @@ def open_files(scene: Scene) -> bool:
     found = []
     for soft, most in ((64, 4096), (64, 128)):
         limits = (32, *LIMITS[1:])
-        gateway = scene.gateway(stores=("main", "a", "b"), limits=limits, files=(soft, most))
-        wait_for(lambda: comes(gateway), 60)
+        gateway = scene.served(stores=("main", "a", "b"), limits=limits, files=(soft, most))
         found.append((int(files_limit(gateway)[0]), "files may be open" in gateway.log()))
     return 3 * 32 + 128 < found[0][0] <= 4096 and not found[0][1] and found[1] == (128, True)
 
@@ -446,18 +437,9 @@ SCENES = [
 
 
 def tried(tries, it, scenes=None, name: str = "serve_gateway") -> None:
-    """Plays each scene, and looks whether a sanitizer found something."""
+    """Plays each scene with gateways of its own, in whose logs no sanitizer may have a line."""
     room = it.room / name
     room.mkdir()
     for play in scenes or SCENES:
         scene = Scene(room, it)
-        try:
-            right, why = play(scene), scene.logs()[-1000:]
-        except (OSError, EOFError, struct.error, subprocess.SubprocessError) as fault:
-            right, why = False, f"{scene.logs()[-1000:]}{fault!r}"
-        finally:
-            scene.end()
-        log = scene.logs()
-        if any(it in log for it in ("AddressSanitizer", "runtime error", "LeakSanitizer")):
-            right, why = False, log[-3000:]
-        tries.told(f"gateway: {play.__name__.replace('_', ' ')}", right, "" if right else why)
+        tries.scene("gateway", play, scene, log=scene.end)

@@ -6,17 +6,17 @@ the number of the last commit is the sum of all counters.
 """
 from __future__ import annotations
 
-import contextlib
 import signal
 import socket
-import sqlite3
 import stat
 import subprocess
 from pathlib import Path
 
 import building
 import serving
-from checks.bad_input import ASK_READ, HEADER, HELLO, Peer, frame, number_of
+from checks.bad_input import Peer
+from checks.frames import ASK_READ, HEADER, HELLO, frame, of_read
+from checks.trying import file_faults, opened, ran, rows_of, said
 from serving import wait_for
 
 CLIENTS, PAGES, SIZE = 8, 16, 4096
@@ -53,20 +53,18 @@ class Host:
 
     def copy(self, how: str, to: Path) -> str:
         """A copy by sqlite3; what it said."""
-        done = subprocess.run(["sqlite3", str(self.store), how.format(to)], capture_output=True,
-                              text=True, check=False)
-        return done.stdout + done.stderr
+        return said("sqlite3", self.store, how.format(to))[1]
 
 
 def counted(store: Path) -> int:
     """How many commits a store has; -1 where it isn't so that each counted one."""
-    with contextlib.closing(sqlite3.connect(store, isolation_level=None)) as tables:
+    with opened(store) as tables:
         tables.execute("BEGIN")  # all of it is of one moment
-        whole = tables.execute("PRAGMA integrity_check").fetchone()[0]
         (number,) = tables.execute("SELECT commits FROM mark2").fetchone()
         bodies = tables.execute("SELECT body FROM part WHERE place = 0").fetchall()
     total = sum(int.from_bytes(body[:8], "little") for (body,) in bodies)
-    return number if whole == "ok" and total == number and len(bodies) == PAGES else -1
+    whole = not file_faults(store)
+    return number if whole and total == number and len(bodies) == PAGES else -1
 
 
 def ended(host: subprocess.Popen, how: signal.Signals) -> int:
@@ -82,8 +80,8 @@ def copies(it: Host) -> str:
     for place in range(COPIES):
         for name, how in (("backup", ".backup '{}'"), ("vacuum", "VACUUM INTO '{}'")):
             to = it.room / f"{name}_{place}.db"
-            said = it.copy(how, to)
-            found.append(counted(to) if to.exists() and not said else -2)
+            fault = it.copy(how, to)
+            found.append(counted(to) if to.exists() and not fault else -2)
     clients.communicate(timeout=120)
     right = ended(server, signal.SIGTERM) == 0 and clients.returncode == 0
     last = counted(it.store)
@@ -139,10 +137,10 @@ def wrong_frames(it: Host) -> str:
     with Caller(it, 1) as holder, Caller(it, 2) as half:
         holder.welcome()
         half.socket.sendall(frame(HELLO, 2, 1)[:9])
-        for said in (frame(HELLO, 1, 1 << 61), frame(HELLO, CLIENTS, 1),
-                     b"GET / HTTP/1.1\r\n\r\n", frame(ASK_READ, 3, 1, number_of(1, PAGES))):
+        for wrong in (frame(HELLO, 1, 1 << 61), frame(HELLO, CLIENTS, 1),
+                      b"GET / HTTP/1.1\r\n\r\n", frame(ASK_READ, 3, 1, of_read(1, PAGES))):
             with Caller(it, 3) as peer:
-                peer.socket.sendall(said)
+                peer.socket.sendall(wrong)
                 closed.append(peer.is_closed())
         right = holder.welcome() is holder
     status = ended(server, signal.SIGTERM)
@@ -151,8 +149,7 @@ def wrong_frames(it: Host) -> str:
 
 def bound(it: Host) -> int:
     """What incarnations are below in the life that the store has."""
-    with contextlib.closing(sqlite3.connect(it.store)) as tables:
-        return tables.execute("SELECT below FROM life").fetchone()[0]
+    return rows_of(it.store, "SELECT below FROM life")[0][0]
 
 
 def lives(it: Host) -> str:
@@ -185,8 +182,7 @@ def no_socket(it: Host) -> str:
     other = it.room / "other"
     other.write_text("kept")
     words = [it.program, other, it.store, CLIENTS, PAGES, SIZE, 0]
-    done = subprocess.run(list(map(str, words)), capture_output=True, text=True, timeout=60,
-                          check=False)
+    done = ran(*words, text=True, timeout=60)
     right = done.returncode == 1 and "cannot listen" in done.stderr
     return "" if right and other.read_text() == "kept" else f"{done.returncode}, {done.stderr}"
 
@@ -220,8 +216,4 @@ def tried(tries, it) -> None:
     host = Host(room, it.library)
     scenes = (copies, killed, wrong_frames, lives, no_socket, strangers, owned_files)
     for scene in scenes:
-        try:
-            why = scene(host)
-        except (OSError, EOFError, sqlite3.Error, subprocess.SubprocessError) as fault:
-            why = f"{fault!r}: {host.log()}"
-        tries.told(f"the host in C: {scene.__name__.replace('_', ' ')}", not why, why)
+        tries.scene("the host in C", scene, host, log=host.log)

@@ -11,7 +11,6 @@ import os
 import resource
 import shutil
 import signal
-import sqlite3
 import struct
 import subprocess
 import tempfile
@@ -20,11 +19,13 @@ from dataclasses import dataclass
 from pathlib import Path
 
 import building
-from checks.bad_input import ASK_READ, ASK_WRITE, CALLBACK, COMMIT, HEADER, HELLO, frame
+from checks.frames import (
+    ABORT_NOW, AGAIN, ASK_READ, ASK_WRITE, CALLBACK, COMMIT, DONE, GRANTED, HEADER, HELLO, WELCOME,
+    frame, of_commit, of_page, of_read, of_write,
+)
+from checks.trying import PIPES, opened, ran, rows_of
 
 CLIENTS, PAGES = 3, 4
-DONE, GRANTED, WELCOME = 69, 66, 65
-AGAIN = HEADER.pack(2, 0, 0, 0, 0)
 # So many incarnations are in a life, if its bound isn't raised: the next one's first is as far on.
 LIFE = 1 << 20
 CONFIG = "clients = {}\npages = {}\npage_size = {}\nslots = 4\n{}"
@@ -81,8 +82,7 @@ class Scene:
 
     def serve(self, given: bytes, **how) -> Ended:
         """Serves what is given to its end."""
-        done = subprocess.run(self.words(), input=given, capture_output=True, check=False,
-                              timeout=120, **how)
+        done = ran(*self.words(), input=given, timeout=120, **how)
         self.incarnation += LIFE
         return self.ended(done.returncode, done.stdout, done.stderr)
 
@@ -95,13 +95,12 @@ class Scene:
         return frame(kind, client, self.incarnation, body)
 
     def commit(self, client: int, number: int, grant: int, later: int = 0) -> bytes:
-        page = struct.pack(">IQI", client, grant, self.size) + number.to_bytes(self.size, "big")
-        body = struct.pack(">QH", number, 1) + page
-        return frame(COMMIT, client, self.incarnation + later, body)
+        page = of_page(client, grant, number.to_bytes(self.size, "big"))
+        return frame(COMMIT, client, self.incarnation + later, of_commit(number, page))
 
     def begins(self) -> bytes:
         """Each client greets and reads its page: the grants are 1, 2 and 3."""
-        asks = [self.say(ASK_READ, it, struct.pack(">QI", 1, it)) for it in range(CLIENTS)]
+        asks = [self.say(ASK_READ, it, of_read(1, it)) for it in range(CLIENTS)]
         return b"".join([*(self.say(HELLO, it) for it in range(CLIENTS)), *asks])
 
     def commits(self, first: int, last: int) -> list[bytes]:
@@ -109,8 +108,7 @@ class Scene:
         frames = []
         for number in range(first, last + 1):
             for client in range(CLIENTS):
-                ask = struct.pack(">QIQ", number, client, client + 1)
-                frames.append(self.say(ASK_WRITE, client, ask))
+                frames.append(self.say(ASK_WRITE, client, of_write(number, client, client + 1)))
                 frames.append(self.commit(client, number, client + 1))
         return frames
 
@@ -121,18 +119,14 @@ class Scene:
 
     def is_made(self) -> bool:
         """Whether the store has its tables, which are made in one transaction."""
-        if not self.store.exists():
-            return False
-        with contextlib.closing(sqlite3.connect(self.store)) as tables:
-            named = tables.execute("SELECT count(*) FROM sqlite_schema WHERE name = 'mark2'")
-            return named.fetchone() == (1,)
+        text = "SELECT count(*) FROM sqlite_schema WHERE name = 'mark2'"
+        return self.store.exists() and rows_of(self.store, text) == [(1,)]
 
     def stored(self) -> tuple[int, list[int]]:
         """The number of the last commit, and the number on each client's page."""
-        with contextlib.closing(sqlite3.connect(self.store)) as tables:
-            (number,) = tables.execute("SELECT commits FROM mark2").fetchone()
-            parts = tables.execute("SELECT body FROM part WHERE no < ? ORDER BY no, place", (3,))
-            bodies = [body for (body,) in parts]
+        ((number,),) = rows_of(self.store, "SELECT commits FROM mark2")
+        text = "SELECT body FROM part WHERE no < ? ORDER BY no, place"
+        bodies = [body for (body,) in rows_of(self.store, text, CLIENTS)]
         each = max(1, len(bodies) // CLIENTS)
         bytes_of = [b"".join(bodies[at : at + each]) for at in range(0, len(bodies), each)]
         return number, [int.from_bytes(it, "big") for it in bytes_of]
@@ -172,9 +166,7 @@ def closed_file(it: Scene) -> bool:
 
 def byte_by_byte(it: Scene) -> bool:
     """What comes a byte at a time is what comes at once."""
-    with subprocess.Popen(it.words(), stdin=subprocess.PIPE, stdout=subprocess.PIPE,
-                          stderr=subprocess.PIPE) as process:
-        assert process.stdin and process.stdout and process.stderr
+    with subprocess.Popen(it.words(), **PIPES) as process:
         for byte in it.given(2):
             os.write(process.stdin.fileno(), bytes([byte]))
         process.stdin.close()
@@ -185,13 +177,13 @@ def byte_by_byte(it: Scene) -> bool:
 
 def damaged_frames(it: Scene) -> bool:
     """What has a header and is no frame is passed over, and counted: each between two commits."""
+    page = of_page(0, 1, bytes(it.size))
     size = struct.pack(">QHIQI", 2, 1, 0, 1, it.size + 16) + bytes(it.size)
-    falls = struct.pack(">QH", 2, 2) + 2 * (struct.pack(">IQI", 0, 1, it.size) + bytes(it.size))
-    count = struct.pack(">QH", 2, 2) + struct.pack(">IQI", 0, 1, it.size) + bytes(it.size)
+    falls, count = of_commit(2, page, page), of_commit(2, page, b"")
     wrong = [
         it.say(COMMIT, 0, size), it.say(COMMIT, 0, falls), it.say(COMMIT, 0, count),
-        it.say(ASK_READ, 0, struct.pack(">QI", 2, PAGES)),
-        it.say(ASK_READ, 0, struct.pack(">QI", 0, 0)), frame(HELLO, 0, 0),
+        it.say(ASK_READ, 0, of_read(2, PAGES)), it.say(ASK_READ, 0, of_read(0, 0)),
+        frame(HELLO, 0, 0),
         frame(HELLO, 0, 1 << 62), frame(HELLO, CLIENTS, 1), frame(HELLO, 65535, 1),
     ]
     right = it.commits(1, 5)
@@ -206,9 +198,9 @@ def strangers(it: Scene) -> bool:
     granted = struct.pack(">IQQI", 0, 9, 9, it.size) + bytes(it.size)
     others = [
         it.commit(0, 9, 1, later=1),
-        it.commit(0, 9, 7), frame(ASK_READ, 1, 9, struct.pack(">QI", 1, 0)),
+        it.commit(0, 9, 7), frame(ASK_READ, 1, 9, of_read(1, 0)),
         it.say(WELCOME, 0), it.say(GRANTED, 0, granted),
-        it.say(DONE, 0, struct.pack(">QQ", 1, 1)), it.say(70, 1, struct.pack(">Q", 1)),
+        it.say(DONE, 0, struct.pack(">QQ", 1, 1)), it.say(ABORT_NOW, 1, struct.pack(">Q", 1)),
         it.say(CALLBACK, 1, struct.pack(">IQ", 0, 1)),
     ]
     ended = it.serve(b"".join(others) + it.given(1))
@@ -249,8 +241,7 @@ def cut_input(it: Scene) -> bool:
 
 def says_again(it: Scene) -> bool:
     """What may be lost is said again: a Callback that isn't answered; and nothing else."""
-    read = it.say(ASK_READ, 0, struct.pack(">QI", 1, 1))
-    ask = it.say(ASK_WRITE, 1, struct.pack(">QIQ", 1, 1, 2))
+    read, ask = it.say(ASK_READ, 0, of_read(1, 1)), it.say(ASK_WRITE, 1, of_write(1, 1, 2))
     ended = it.serve(AGAIN + it.begins() + AGAIN + read + ask + AGAIN + AGAIN)
     calls = [each for each in ended.kinds() if each == (CALLBACK, 0)]
     return ended.how == (0, []) and len(calls) == 3 and len(ended.frames) == 10
@@ -304,7 +295,7 @@ def prepared(scene: Scene, name: str) -> Iterator[None]:
     if name != "held":
         yield
         return
-    with contextlib.closing(sqlite3.connect(scene.store, isolation_level=None)) as other:
+    with opened(scene.store) as other:
         other.execute("PRAGMA locking_mode = EXCLUSIVE")
         other.execute("BEGIN EXCLUSIVE")
         yield
@@ -359,8 +350,7 @@ def on_a_small_disk(it: Scene) -> bool:
 
 def until_it_ends(scene: Scene) -> Ended:
     """Commits one after another, each once the one before is answered, until the server ends."""
-    with subprocess.Popen(scene.words(), stdin=subprocess.PIPE, stdout=subprocess.PIPE,
-                          stderr=subprocess.PIPE) as process:
+    with subprocess.Popen(scene.words(), **PIPES) as process:
         out, number, given = b"", 1, [scene.begins(), *scene.commits(1, 1)]
         with contextlib.suppress(BrokenPipeError):
             process.stdin.write(b"".join(given))
@@ -390,7 +380,7 @@ def closed_outputs(it: Scene) -> bool:
             os.close(writer)
             out = read_some(reader, taken)
             os.close(reader)
-            said = process.stderr.read() if process.stderr else b""
+            said = process.stderr.read()
         ended = scene.ended(process.returncode, out, said)
         right.append(ended.how == (5, []) and scene.holds(ended))
     scene = Scene(it.room, it.server)
@@ -407,10 +397,8 @@ def reader_goes(it: Scene) -> bool:
     right = []
     for has_answers, commits in ((False, 6), (True, 3)):
         scene = Scene(it.room, it.server, more="keep_write = 1\n")
-        ask = scene.say(ASK_READ, 0, struct.pack(">QI", 3, 3)) if has_answers else b""
-        with subprocess.Popen(scene.words(), stdin=subprocess.PIPE, stdout=subprocess.PIPE,
-                              stderr=subprocess.PIPE) as process:
-            assert process.stdin and process.stdout and process.stderr
+        ask = scene.say(ASK_READ, 0, of_read(3, 3)) if has_answers else b""
+        with subprocess.Popen(scene.words(), **PIPES) as process:
             os.write(process.stdin.fileno(), scene.given(1))
             frames: list = []
             while sum(kind == DONE for kind, _, _ in frames) < CLIENTS:
@@ -441,7 +429,7 @@ def read_some(reader: int, count: int) -> bytes:
 def unreadable_input(it: Scene) -> bool:
     """The input is a folder."""
     folder = os.open(it.room, os.O_RDONLY)
-    done = subprocess.run(it.words(), stdin=folder, capture_output=True, check=False)
+    done = ran(*it.words(), stdin=folder)
     os.close(folder)
     return (done.returncode, done.stdout, done.stderr) == (3, b"", b"input: cannot read\n")
 
@@ -500,8 +488,4 @@ def tried(tries, room: Path, name: str, server: tuple) -> None:
     """Plays each scene at servers of its own, that these words start."""
     room.mkdir()
     for scene in SCENES:
-        try:
-            right, why = scene(Scene(room, server)), ""
-        except (OSError, sqlite3.Error, subprocess.SubprocessError, IndexError) as fault:
-            right, why = False, repr(fault)
-        tries.told(f"{name}: {scene.__name__.replace('_', ' ')}", right, why)
+        tries.scene(name, scene, Scene(room, server))

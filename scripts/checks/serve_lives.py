@@ -11,16 +11,17 @@ import os
 import random
 import select
 import signal
-import sqlite3
-import struct
 import subprocess
 from pathlib import Path
 from typing import Iterator
 
 import building
 import postgres
-from checks.bad_input import ASK_READ, COMMIT, GRANTED, HEADER, HELLO, WELCOME, frame
-from checks.serve_input import CLIENTS, DONE, PAGES, Scene
+from checks.frames import (
+    ASK_READ, COMMIT, DONE, GRANTED, HEADER, HELLO, WELCOME, frame, of_commit, of_read,
+)
+from checks.serve_input import CLIENTS, PAGES, Scene
+from checks.trying import PIPES, opened, rows_of
 from serving import wait_for
 
 KILLS = 30
@@ -47,8 +48,7 @@ class Store:
             where = f"store = '{self.scene.room.name}'"
             found = self.cluster.sql(f"SELECT {names} FROM mark WHERE {where}")
             return [int(it) for it in found.split("|")]
-        with contextlib.closing(sqlite3.connect(self.scene.store)) as tables:
-            return list(tables.execute(f"SELECT {names} FROM life, mark2").fetchone())
+        return list(rows_of(self.scene.store, f"SELECT {names} FROM life, mark2")[0])
 
     @contextlib.contextmanager
     def served(self) -> Iterator[Server]:
@@ -63,8 +63,7 @@ class Server:
     """A server with pipes, which has announced its life."""
 
     def __init__(self, words: list[str], **how: object) -> None:
-        pipes = {"stdin": subprocess.PIPE, "stdout": subprocess.PIPE, "stderr": subprocess.PIPE}
-        self.process = subprocess.Popen(words, **pipes, **how)
+        self.process = subprocess.Popen(words, **PIPES, **how)
         self.version, self.kind, self.client, self.floor, self.size = self.header()
 
     def exactly(self, count: int, seconds: float = 60.0) -> bytes:
@@ -91,8 +90,8 @@ class Server:
         return kind, client, incarnation
 
     def commit_of_reads(self, client: int, incarnation: int) -> None:
-        read = frame(ASK_READ, client, incarnation, struct.pack(">QI", 1, PAGES - 1))
-        self.say(read, frame(6, client, incarnation, struct.pack(">QH", 1, 0)))
+        read = frame(ASK_READ, client, incarnation, of_read(1, PAGES - 1))
+        self.say(read, frame(COMMIT, client, incarnation, of_commit(1)))
 
     def kill(self, how: signal.Signals = signal.SIGKILL) -> None:
         self.process.send_signal(how)
@@ -191,7 +190,7 @@ def below_what_waits(it: Store) -> str:
     clock = CLOCK
     with it.served() as server:
         asks = [frame(HELLO, client, clock + (client << 30)) for client in range(CLIENTS)]
-        reads = [frame(ASK_READ, client, clock + (client << 30), struct.pack(">QI", 1, client))
+        reads = [frame(ASK_READ, client, clock + (client << 30), of_read(1, client))
                  for client in range(CLIENTS)]
         server.say(*asks, *reads)
         heard = [server.hear() for _ in range(2 * CLIENTS)]
@@ -225,12 +224,12 @@ def read_beside_a_sync(room: Path, serve: Path) -> str:
            "HELD_SYNC": str(fifo), "ASAN_OPTIONS": "verify_asan_link_order=0"}
     server = Server(store.words(), env=env)
     try:
-        reads = [frame(ASK_READ, it, server.floor, struct.pack(">QI", 1, it)) for it in range(2)]
+        reads = [frame(ASK_READ, it, server.floor, of_read(1, it)) for it in range(2)]
         hellos = [frame(HELLO, it, server.floor) for it in range(2)]
         server.say(*hellos, reads[0])
         heard = [server.hear()[0] for _ in range(3)]
         os.mkfifo(fifo)
-        server.say(frame(COMMIT, 0, server.floor, struct.pack(">QH", 1, 0)))
+        server.say(frame(COMMIT, 0, server.floor, of_commit(1)))
         held = opened_once_read(fifo)
         server.say(reads[1])
         heard.append(server.hear()[0])
@@ -260,7 +259,7 @@ def older_tables(it: Store) -> str:
     """Tables of a server that kept no lives: the first one begins above what clocks gave."""
     with it.served() as server:
         server.kill()
-    with contextlib.closing(sqlite3.connect(it.scene.store)) as tables:
+    with opened(it.scene.store) as tables:
         tables.execute("DROP TABLE life")
     floors = []
     for _ in range(2):
@@ -276,9 +275,8 @@ def wrong_rows(it: Store) -> str:
         server.kill()
     for change in ("DELETE FROM life", "INSERT INTO life VALUES (1, 0, 0)",
                    f"UPDATE life SET below = {(1 << 62) - (1 << 20)}"):
-        with contextlib.closing(sqlite3.connect(it.scene.store)) as tables:
+        with opened(it.scene.store) as tables:
             tables.execute(change)
-            tables.commit()
         with it.served() as server:
             ended = server.ended()
         if server.version != 0 or ended != (3, ["store: Shape"]):
@@ -304,14 +302,6 @@ def tried(tries, room: Path, serve: Path, play: tuple) -> None:
             stack.callback(cluster.stop)
         for name, (words, cluster, scenes) in engines.items():
             for scene in scenes:
-                try:
-                    why = scene(Store(room, words, play, cluster))
-                except (OSError, sqlite3.Error, subprocess.SubprocessError, ValueError) as fault:
-                    why = repr(fault)
-                tries.told(f"lives, {name}: {scene.__name__.replace('_', ' ')}", not why, why)
+                tries.scene(f"lives, {name}", scene, Store(room, words, play, cluster))
     (room / "beside").mkdir()
-    try:
-        why = read_beside_a_sync(room / "beside", serve)
-    except (OSError, ValueError) as fault:
-        why = repr(fault)
-    tries.told("SQLite: a read beside a sync", not why, why)
+    tries.scene("SQLite", read_beside_a_sync, room / "beside", serve)

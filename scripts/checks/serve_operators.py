@@ -7,13 +7,13 @@ import re
 import shutil
 import signal
 import socket
-import struct
-import subprocess
 from pathlib import Path
 
 import building
-from checks.bad_input import ASK_WRITE, COMMIT, Peer, number_of, token_of
+from checks.bad_input import Peer, token_of
+from checks.frames import ASK_WRITE, COMMIT, DONE, GIVE_BACK, of_commit, of_read
 from checks.serve_gateway import LIMITS, Scene, answer_to, called_back, comes
+from checks.trying import ran, said
 from serving import Gateway, free_port, wait_for
 
 UNIT = building.TOP / "examples/rughvadi-gateway.service"
@@ -28,10 +28,10 @@ def scraped(place: str | int, request: str = "GET /metrics HTTP/1.1\r\n\r\n") ->
         one.settimeout(20)
         one.connect(("127.0.0.1", place) if isinstance(place, int) else str(place))
         one.sendall(request.encode())
-        said = b""
+        answer = b""
         while got := one.recv(1 << 16):
-            said += got
-    return said.decode()
+            answer += got
+    return answer.decode()
 
 
 def numbers_of(text: str) -> dict[str, float]:
@@ -42,8 +42,8 @@ def numbers_of(text: str) -> dict[str, float]:
 
 def committed(peer: Peer, transaction: int) -> None:
     """Commits nothing, and waits for the answer."""
-    peer.say(COMMIT, struct.pack(">QH", transaction, 0))
-    while peer.hear()[0] != 69:
+    peer.say(COMMIT, of_commit(transaction))
+    while peer.hear()[0] != DONE:
         pass
 
 
@@ -51,8 +51,8 @@ def counted(gateway: Gateway, place: str | int) -> bool:
     """Whether the numbers are those of what a client did."""
     with Peer(gateway, 1) as peer:
         named = called_back(peer.welcome(), 3)
-        peer.say(4, named)
-        peer.say(ASK_WRITE, number_of(1, 3) + named[4:])
+        peer.say(GIVE_BACK, named)
+        peer.say(ASK_WRITE, of_read(1, 3) + named[4:])
         peer.hear()
         committed(peer, 2)
         committed(peer, 3)
@@ -86,14 +86,12 @@ def metrics(scene: Scene) -> bool:
     right = []
     for port in (True, False):
         place = free_port() if port else scene.room / "metrics"
-        gateway = scene.gateway("--metrics", str(place), command=scene.stand_in("--recall"))
-        wait_for(lambda: comes(gateway), 60)
+        gateway = scene.served("--metrics", str(place), command=scene.stand_in("--recall"))
         silent = [socket.socket(socket.AF_INET if port else socket.AF_UNIX) for _ in range(20)]
         for each in silent:
             each.connect(("127.0.0.1", place) if port else str(place))
         right.append(counted(gateway, place) and "404" in scraped(place, "GET / HTTP/1.1\r\n\r\n"))
-        for number in gateway.servers():
-            os.kill(number, signal.SIGKILL)
+        gateway.kill_servers()
         wait_for(lambda: comes(gateway), 60)
         text = scraped(place).split("\r\n\r\n", 1)[1]
         right.append('server_restarts_total{store="main"} 1\n' in text and is_content(text))
@@ -107,8 +105,7 @@ def is_content(text: str) -> bool:
     if not shutil.which("promtool"):
         print("metrics: without promtool (Debian's prometheus)")
         return True
-    done = subprocess.run(["promtool", "check", "metrics"], input=text, capture_output=True,
-                          text=True, check=False)
+    done = ran("promtool", "check", "metrics", input=text, text=True)
     return done.returncode == 0 and not done.stderr
 
 
@@ -118,8 +115,7 @@ def is_content(text: str) -> bool:
 def tokens_again(scene: Scene) -> bool:
     """By SIGHUP: whose line went is cut, whose token is new has to show it, others stay; and where
     the file is wrong all stays as it was."""
-    gateway = scene.gateway()
-    wait_for(lambda: comes(gateway), 60)
+    gateway = scene.served()
     peers = [Peer(gateway, client).welcome() for client in range(3)]
     lines, old = gateway.tokens.read_text().splitlines(), token_of(gateway, 2)
     lines[1], lines[2] = "", "2 " + 32 * "ab"
@@ -151,12 +147,12 @@ def told_manager(scene: Scene) -> bool:
             manager.bind(place.replace("@", "\0"))
             manager.settimeout(20)
             gateway = scene.gateway(env={"NOTIFY_SOCKET": place})
-            said = [manager.recv(100)]
+            told = [manager.recv(100)]
             wait_for(lambda: comes(gateway), 60)
             served = Path(f"/proc/{gateway.servers()[0]}/environ").read_bytes()
             gateway.stop()
-            said.append(manager.recv(100))
-        right.append(said == [b"READY=1", b"STOPPING=1"] and b"NOTIFY_SOCKET" not in served)
+            told.append(manager.recv(100))
+        right.append(told == [b"READY=1", b"STOPPING=1"] and b"NOTIFY_SOCKET" not in served)
     return all(right)
 
 
@@ -190,8 +186,7 @@ def unit_file(scene: Scene) -> bool:
     text = text.replace("/usr/local/bin/cb_play", "/bin/true")
     unit = scene.room / UNIT.name
     unit.write_text(text)
-    done = subprocess.run(["systemd-analyze", "verify", str(unit)], capture_output=True, text=True,
-                          check=False)
+    done = ran("systemd-analyze", "verify", unit, text=True)
     return done.returncode == 0 and UNIT.name not in done.stderr
 
 
@@ -202,8 +197,7 @@ def warnings(scene: Scene) -> bool:
     hosts = building.TOP / "hosts"
     folders = [hosts / "gateway", hosts / "serve"]
     sources = sorted(str(it) for folder in folders for it in folder.glob("*.c"))
-    libpq = subprocess.run(["pkg-config", "--cflags", "libpq"], capture_output=True, text=True,
-                           check=True).stdout.split()
+    libpq = ran("pkg-config", "--cflags", "libpq", text=True).stdout.split()
     flags = ["-std=c11", "-D_GNU_SOURCE", f"-I{hosts}/c", f"-I{hosts}/gateway", *libpq]
     gcc = ["gcc", *flags, "-O2", "-Wall", "-Wextra", "-Wconversion", "-Werror", "-fanalyzer", "-c"]
     commands = [[*gcc, source, "-o", "/dev/null"] for source in sources]
@@ -217,8 +211,8 @@ def warnings(scene: Scene) -> bool:
         if not shutil.which(words[0]):
             print(f"warnings: without {words[0]}")
             continue
-        done = subprocess.run(words, capture_output=True, text=True, check=False)
-        found += [done.stdout + done.stderr] if done.returncode else []
+        right, text = said(*words)
+        found += [] if right else [text]
     print("\n".join(found), end="")
     return not found
 

@@ -11,7 +11,6 @@ aren't those that its answers tell of.
 """
 import gzip
 import subprocess
-import sys
 from itertools import zip_longest
 from pathlib import Path
 
@@ -37,8 +36,7 @@ def is_right(program, room, file):
 
 def main(files):
     if not files:
-        print("scripts/check sides FILE..", file=sys.stderr)
-        return 2
+        raise building.WrongWords("scripts/check sides FILE..")
     with building.a_room() as room:
         program = building.play()
         return 0 if all([is_right(program, room, file) for file in files]) else 1

@@ -22,8 +22,6 @@ from __future__ import annotations
 import os
 import shutil
 import signal
-import subprocess
-import sys
 import time
 from collections.abc import Callable
 from dataclasses import dataclass, field
@@ -31,15 +29,15 @@ from pathlib import Path
 
 import building
 import postgres
-import serial
 import serving
 from checks import engine_faults
 from checks.bad_input import Peer, token_of
-from checks.library import Tries
+from checks.built import Built
+from checks.killing import Workers, in_series
+from checks.trying import Tries, numbers
 from postgres import Cluster
 from serving import Gateway, wait_for
 
-WORKER = building.PROGRAMS / "python/serial_worker.py"
 CLIENTS, WATCHER, PAGES, SIZE = 6, 7, 6, 4096
 LIMITS = (8, PAGES, SIZE, 8, 1)
 # A server stands still for so long: more than another one waits for a sign of it.
@@ -50,55 +48,26 @@ STILL = 6.0
 class Site:
     """The clusters, the gateways and the clients of a store."""
 
-    room: Path
-    env: dict[str, str]
-    clusters: list[Cluster] = field(default_factory=list)
+    clusters: list[Cluster]
     gateways: list[Gateway] = field(default_factory=list)
-    workers: list[subprocess.Popen] = field(default_factory=list)
+    workers: Workers | None = None
     turn: int = 0
     primary: int = 0
 
-    def conninfo(self) -> str:
-        hosts = ",".join("127.0.0.1" for _ in self.clusters)
-        ports = ",".join(str(it.port) for it in self.clusters)
-        return f"host={hosts} port={ports} user=postgres dbname=postgres"
-
-    def logs(self, turn: object = "*") -> list[Path]:
-        return sorted(self.room.glob(f"log_{turn}_*"))
-
-    def worker(self, client: int, *words: str) -> subprocess.Popen:
-        """A client that tries the gateways in its own order."""
+    def addresses(self, client: int) -> str:
+        """Each client tries the gateways in its own order."""
         sockets = [str(it.socket) for it in self.gateways]
-        addresses = ",".join(sockets if client % 2 else sockets[::-1])
-        told = [sys.executable, WORKER, addresses, self.gateways[0].tokens, client, PAGES,
-                self.room / f"log_{self.turn}_{client}", *words]
-        return subprocess.Popen(list(map(str, told)), env=self.env)
+        return ",".join(sockets if client % 2 else sockets[::-1])
 
     def begin(self) -> None:
         """New clients, with new logs."""
         self.turn += 1
-        self.workers = [self.worker(client) for client in range(CLIENTS)]
+        self.workers.name = f"log_{self.turn}"
+        self.workers.begin()
 
-    def end(self) -> None:
-        for worker in self.workers:
-            worker.kill()
-            worker.wait()
-        self.workers = []
-
-    def committed(self) -> list[int]:
-        """How much each client has logged."""
-        return [path.stat().st_size for path in self.logs(self.turn)]
-
-    def goes_on(self, seconds: float = 120.0) -> bool:
+    def goes_on(self) -> bool:
         """Whether each client commits again."""
-        before = self.committed()
-
-        def all_more() -> bool:
-            now = self.committed()
-            olds = before if len(before) == CLIENTS else CLIENTS * [0]
-            return len(now) == CLIENTS and all(new > old + 2000 for old, new in zip(olds, now))
-
-        return wait_for(all_more, seconds) and all(it.poll() is None for it in self.workers)
+        return self.workers.all_go_on(2000)
 
     def active(self) -> int | None:
         """The gateway whose server serves the store."""
@@ -119,33 +88,35 @@ class Site:
         return self.gateways[place or 0]
 
 
-def opened(room: Path, gateway: Path, serve: Path, env: dict[str, str]) -> Site:
+def opened(room: Path, it: Built) -> Site:
     """Clusters and gateways, at work."""
-    site = Site(room, env)
-    site.clusters = [Cluster(room / "cluster_0").start()]
+    site = Site([Cluster(room / "cluster_0").start()])
     site.clusters.append(Cluster(room / "cluster_1", of=site.clusters[0]))
     site.clusters[1].options["synchronous_standby_names"] = "*"
     site.clusters[1].start()
     site.clusters[0].set("synchronous_standby_names", "*")
     words = ("--announced", "--silence", "5")
-    command = (serve, "--announce", "--standby", "required")
+    command = (it.checked_serve, "--announce", "--standby", "required")
+    database = f"'{postgres.conninfo(*site.clusters)}'"
     ahead = serving.set_clock(room)
     serving.put_clock(room, 300)
     for place in range(2):
         own = room / f"gateway_{place}"
         own.mkdir()
-        site.gateways.append(Gateway(own, gateway, serve, words=words, limits=LIMITS,
-                                     command=command, database_word=f"'{site.conninfo()}'",
+        site.gateways.append(Gateway(own, it.gateway, it.checked_serve, words=words, limits=LIMITS,
+                                     command=command, database_word=database,
                                      env={} if place else ahead))
         site.gateways[place].make_files()
         shutil.copy(site.gateways[0].tokens, own / "copied")
         (own / "copied").replace(site.gateways[place].tokens)
         site.gateways[place].start()
+    starts = in_series(site.addresses, site.gateways[0].tokens, PAGES)
+    site.workers = Workers(room, it.env, CLIENTS, starts)
     return site
 
 
 def closed(site: Site) -> None:
-    site.end()
+    site.workers.end()
     for gateway in site.gateways:
         gateway.stop(signal.SIGKILL)
     for cluster in site.clusters:
@@ -156,8 +127,7 @@ def closed(site: Site) -> None:
 
 
 def kill_server(site: Site) -> None:
-    for number in site.serving().servers():
-        os.kill(number, signal.SIGKILL)
+    site.serving().kill_servers()
 
 
 def kill_gateway(site: Site) -> None:
@@ -179,8 +149,7 @@ def kill_primary(site: Site) -> None:
 
 def kill_all(site: Site) -> None:
     gateway = site.serving()
-    for number in gateway.servers():
-        os.kill(number, signal.SIGKILL)
+    gateway.kill_servers()
     gateway.stop(signal.SIGKILL)
     kill_primary(site)
     gateway.start()
@@ -212,24 +181,10 @@ def tried_kind(
             break
         slowest = max(slowest, time.monotonic() - begun)
         done += 1
-    site.end()
-    verdict = judged(site)
+    site.workers.end()
+    verdict = site.workers.judged(WATCHER - 1)
     said = f"{done} of {times}, goes on after {slowest:.1f} s at most; {verdict}"
     tries.told(name, done == times and not verdict.faults, said)
-
-
-def judged(site: Site) -> serial.Verdict:
-    """All logs so far, once a last client has read all pages."""
-    reader = site.worker(WATCHER - 1, "all")
-    try:
-        status = reader.wait(120)
-    except subprocess.TimeoutExpired:
-        reader.kill()
-        status = reader.wait()
-    verdict = serial.judge(site.logs())
-    if status != 0:
-        verdict.faults.append("no client could read all pages")
-    return verdict
 
 
 def tried(tries: Tries, site: Site, kills: int) -> None:
@@ -245,29 +200,18 @@ def tried(tries: Tries, site: Site, kills: int) -> None:
 
 
 def main(words: list[str]) -> int:
-    built = [word for word in words if word == "--built"]
-    counts = [word for word in words if word != "--built"]
-    if len(counts) > 1 or not all(word.isdecimal() for word in counts):
-        print("scripts/check takeover [--built] [KILLS]", file=sys.stderr)
-        return 2
+    built, (kills,) = numbers(words, "takeover [--built] [KILLS]", 50)
     if not postgres.is_there():
-        print("takeover: it needs PostgreSQL 15", file=sys.stderr)
-        return 2
+        raise building.NotBuilt("takeover: it needs PostgreSQL 15")
     tries = Tries()
     with building.a_room() as room:
-        room.chmod(0o755)
-        lib = serving.library(room, built)
-        flags = f"CFLAGS={serving.SANITIZERS}"
-        gateway = serving.made(Path("hosts/gateway"), room, flags) / "gateway"
-        serve = serving.made(Path("hosts/serve"), room, flags, f"LIBRARY={lib}") / "rughvadi-serve"
-        engine_faults.tried(tries, room / "faults", serve)
+        it = Built(room, built)
+        engine_faults.tried(tries, room / "faults", it.checked_serve)
         own = room / "takeover"
         own.mkdir()
-        env = {**os.environ, "PYTHONPATH": f"{lib}/share/rughvadi/python"}
-        site = opened(own, gateway, serve, env)
+        site = opened(own, it)
         try:
-            tried(tries, site, int((counts + ["50"])[0]))
+            tried(tries, site, kills)
         finally:
             closed(site)
-    print(f"takeover: {tries.passed} passed, {tries.failed} failed")
-    return 1 if tries.failed else 0
+    return tries.status("takeover")

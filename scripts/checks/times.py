@@ -100,7 +100,8 @@ def table(calls: list[list], below: Path | None) -> None:
     print(f"all {whole / 60:.0f} processor minutes in {clock:.0f} of the clock", end="")
     print(f": {whole / peer:.1f} times the {peer:.0f} s of {PEER}" if peer else "")
     lost = [it for it in building.listed() if not found[it]["proof"] + found[it]["program"]]
-    print(f"not proved in this run, and in no sum: {', '.join(lost)}" if lost else "all were proved")
+    names = ", ".join(lost)
+    print(f"not proved in this run, and in no sum: {names}" if lost else "all were proved")
 
 
 def run_of(clone: Path, log: Path, is_anew: bool) -> int:
@@ -124,8 +125,7 @@ def main(words: list[str]) -> int:
         return 0
     folders = [it for it in words if it != "--kept"]
     if len(folders) > 1 or any(it.startswith("-") for it in folders):
-        print("scripts/check times ([--kept] [FOLDER] | --of LOG)", file=sys.stderr)
-        return 2
+        raise building.WrongWords("scripts/check times ([--kept] [FOLDER] | --of LOG)")
     clone = Path(folders[0] if folders else f"{tempfile.mkdtemp(prefix='gate-times-')}/clone")
     log = clone.with_name(f"{clone.name}.calls")
     status = run_of(clone, log.absolute(), "--kept" not in words)

@@ -4,8 +4,6 @@
     scripts/check wrong CRATE [WORD]     those of a crate whose names have the word in them
     scripts/check wrong --list [CRATE]   how many there are, and whether each is written as it must
                                          be and its texts stand in the tree; it proves nothing
-    scripts/check wrong --convert        takes in folders scripts/wrong_bodies/CRATE of files
-                                         NAME.edit, and removes them
 
 scripts/wrong_bodies/CRATE.edits has a crate's wrong bodies; how they are written is said in
 scripts/bodies/edits.py. Those that the prover has to refuse are tried over built libraries: BELOW
@@ -22,19 +20,17 @@ there are any, and 2 where a library isn't built. One body takes 4 to 6 processo
 that is tried alone 15 to 30; all take some 150 processor minutes. As many checks run at a time as
 there are processors and 3 GB of free memory for each; `--jobs N` says how many.
 """
-import shutil
-import sys
 import time
 from collections import Counter
 
 import building
 from bodies import edits as written
 from bodies import pool
-from bodies.edits import FOLDER, Edit
+from bodies.edits import Edit
 from bodies.prover import Prover
 from building import TOP
 
-USAGE = "scripts/check wrong (--all [CRATE..] | CRATE [WORD] | --list [CRATE] | --convert)"
+USAGE = "scripts/check wrong (--all [CRATE..] | CRATE [WORD] | --list [CRATE])"
 
 
 def try_bodies(wanted: dict[str, list[Edit]], most: int) -> int:
@@ -62,30 +58,6 @@ def list_all(names: list[str]) -> int:
     return 1 if counts["wrong"] or not counts["proved"] + counts["tested"] else 0
 
 
-def convert(folder) -> int:
-    """Takes a folder's files into the crate's file; 1 where a name has other lines there."""
-    path = folder.with_suffix(".edits")
-    edits = written.edits_of(path) if path.exists() else []
-    there = {(it.name, it.is_tested): it.lines for it in edits}
-    files = sorted(folder.rglob("*.edit"))
-    for file in files:
-        edit = Edit(file.stem, file.parent.name == "tested", file.read_text().splitlines())
-        if there.setdefault((edit.name, edit.is_tested), edit.lines) != edit.lines:
-            print(f"{folder.name}: {edit.name} is there already, with other lines")
-            return 1
-    edits = [Edit(*key, lines) for key, lines in there.items()]
-    edits.sort(key=lambda it: (it.is_tested, it.name))
-    path.write_text("\n".join(it.text() for it in edits))
-    # What is taken in must be read again as it was.
-    read = {(it.name, it.is_tested): it.lines for it in written.edits_of(path)}
-    if read != there:
-        print(f"{folder.name}: it isn't read as it was written")
-        return 1
-    shutil.rmtree(folder)
-    print(f"{folder.name}: {len(files)} taken in")
-    return 0
-
-
 def jobs_in(words: list[str]) -> int:
     """How many checks at a time the words ask for, which are taken off; else as many as may be."""
     if "--jobs" not in words[:-1]:
@@ -110,11 +82,8 @@ def wanted_by(what: str, rest: list[str]) -> dict[str, list[Edit]]:
 def main(words: list[str]) -> int:
     most = jobs_in(words)
     what, *rest = words or [""]
-    if what == "--convert" and not rest:
-        return max((convert(it) for it in sorted(FOLDER.iterdir()) if it.is_dir()), default=0)
     if what == "--list" and len(rest) < 2 and {*rest} <= {*written.crates()}:
         return list_all(rest or written.crates())
     if wanted := wanted_by(what, rest):
         return try_bodies(wanted, most)
-    print(USAGE, file=sys.stderr)
-    return 2
+    raise building.WrongWords(USAGE)

@@ -2,9 +2,9 @@
 
 Clients connect to the sockets ONE and TWO, and greet. The gateway whose turn it is gives a client
 its seat and relays its frames to the server `served`, at the socket SERVED; the other answers that
-the store isn't served. After so many bytes all connections end, and it is the other's turn. For each
-turn that has ended a line is written. The seven LIMITS are those of a seat. A token's first byte is
-its client's number.
+the store isn't served. After so many bytes all connections end, and it is the other's turn. For
+each turn that has ended a line is written. The seven LIMITS are those of a seat. A token's first
+byte is its client's number.
 """
 
 from __future__ import annotations
