@@ -122,8 +122,13 @@ def program_of(crate: Path, libraries: list[str], words: Iterable[str]) -> Path:
     return built(crate / f"out/{crate.name}", ran_by_rt(crate, words))
 
 
-def program(name: str, libraries: list[str], words: Iterable[str], room: Path) -> Path:
-    """A program of scripts/programs, built in a copy of the crates below it, and run once."""
+def program(
+    name: str, libraries: list[str], words: Iterable[str], room: Path, variable: str = "PROGRAM"
+) -> Path:
+    """A program of scripts/programs: the one that the variable names, else built in a copy of the
+    crates below it, and run once."""
+    if given := named(variable):
+        return given
     copy = copy_of(libraries, room / name)
     return program_of(new_crate(copy, name, libraries), libraries, words)
 

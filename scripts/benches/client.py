@@ -78,7 +78,7 @@ class Measured:
 
 def main(words):
     with building.a_room() as room:
-        program = building.named("PROGRAM") or building.program("client_speed", LIBRARIES, [], room)
+        program = building.program("client_speed", LIBRARIES, [], room)
         measured = Measured(program, int((words or ["9"])[0]))
         measured.reads()
         measured.drops()

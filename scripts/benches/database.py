@@ -28,8 +28,7 @@ LIBRARY, IN_C = "the database's library", "SQLite in C"
 def program(room: Path) -> Path:
     """The program over the database's library: that of DATABASE, else built."""
     words = ["none", "1", "8", "0"]
-    named = building.named("DATABASE")
-    return named or building.program("database_commits", ["sqlite", "anyhow"], words, room)
+    return building.program("database_commits", ["sqlite", "anyhow"], words, room, "DATABASE")
 
 
 def transactions(path: Path) -> int:

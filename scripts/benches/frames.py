@@ -17,5 +17,5 @@ LIBRARIES = ["cb_page", "cb_frame", "anyhow"]
 
 def main(_words):
     with building.a_room() as room:
-        program = building.named("PROGRAM") or building.program("frames_speed", LIBRARIES, [], room)
+        program = building.program("frames_speed", LIBRARIES, [], room)
         return subprocess.run([program], check=False).returncode

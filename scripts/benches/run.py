@@ -106,7 +106,7 @@ def main(words):
         first = [f"{room}/first.db", "1", "1", "own"]
         programs = (
             building.play("PLAY"),
-            building.named("OWN") or building.program("own_pages", OWN, first, room),
+            building.program("own_pages", OWN, first, room, "OWN"),
             building.in_c("jobs", room, "-lsqlite3"),
             building.library_in_c("sync", room, "-ldl"),
         )

@@ -102,7 +102,7 @@ def is_served(gateway: serving.Gateway) -> bool:
         return peer.greeted(token_of(gateway, 31))[1] == 0
 
 
-def by_one(it: Programs, room: Path, server: list, words: list) -> str:
+def by_one(it: Programs, server: list, words: list) -> str:
     """By a server that says when it is ready."""
     process = subprocess.Popen(list(map(str, server)), stdout=subprocess.PIPE)
     process.stdout.readline()
@@ -116,13 +116,13 @@ def by_one(it: Programs, room: Path, server: list, words: list) -> str:
 def by_served(it: Programs, room: Path, clients: int, seconds: float) -> str:
     socket, limits = room / "socket", [32, PAGES, SIZE]
     server = [it.served, socket, room / "pages.db", *limits, 1]
-    return by_one(it, room, server, ["served", socket, *limits, 1, clients, seconds])
+    return by_one(it, server, ["served", socket, *limits, 1, clients, seconds])
 
 
 def by_plain(it: Programs, room: Path, clients: int, seconds: float) -> str:
     socket = room / "socket"
     server = [it.plain, socket, room / "pages.db", PAGES, SIZE]
-    return by_one(it, room, server, ["plain", socket, SIZE, clients, seconds])
+    return by_one(it, server, ["plain", socket, SIZE, clients, seconds])
 
 
 class Postgres:

@@ -58,7 +58,7 @@ def others(program, runs):
 def main(words):
     runs = int((words or ["5"])[0])
     with building.a_room() as room:
-        program = building.named("PROGRAM") or building.program("server_speed", LIBRARIES, [], room)
+        program = building.program("server_speed", LIBRARIES, [], room)
         for part in (exchanges, transactions, others):
             part(program, runs)
     return 0

@@ -23,8 +23,7 @@ LIBRARIES = ["cb_page", "cb_frame", "cb_commit", "cb_hands", "cb_station"]
 def main(words):
     runs = int((words or ["3"])[0])
     with building.a_room() as room:
-        program = building.named("PROGRAM")
-        program = program or building.program("station_speed", LIBRARIES, [], room)
+        program = building.program("station_speed", LIBRARIES, [], room)
         for case in ("commit", "keep", "flush"):
             for pages, size, before in SETTINGS:
                 times = 100_000 if size == 16 else 20_000

@@ -18,5 +18,5 @@ LIBRARIES = ["cb_page", "cb_twoq", "anyhow"]
 
 def main(_words):
     with building.a_room() as room:
-        program = building.named("PROGRAM") or building.program("twoq_speed", LIBRARIES, [], room)
+        program = building.program("twoq_speed", LIBRARIES, [], room)
         return subprocess.run([program], check=False).returncode

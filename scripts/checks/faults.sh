@@ -34,12 +34,20 @@ wanted() {
   fi
 }
 
+# the same of a run with these words, whose output is kept: NAME STATUS-WANTED LINE-WANTED WORD..
+runs() {
+  local given=("${@:1:3}")
+  shift 3
+  "$program" "$@" >"$room/out" 2>"$room/err"
+  status=$?
+  wanted "${given[@]}"
+}
+
 "$program" play "$config" "$schedule" >"$room/out" 2>"$room/err"; status=$?
 [ "$(cat "$room/out")" = "$whole" ] || { echo "the plain run prints something else"; bad=1; }
 wanted "a plain run" 0 ""
 
-"$program" play "$schedule" "$config" >"$room/out" 2>"$room/err"; status=$?
-wanted "the two files changed over" 2 "config: text"
+runs "the two files changed over" 2 "config: text" play "$schedule" "$config"
 
 "$program" play "$config" "$schedule" >/dev/full 2>"$room/err"; status=$?
 wanted "a full disk" 5 "cannot write"
@@ -62,21 +70,16 @@ wanted "a closed pipe" 5 ""
 wanted "a closed standard output" 5 "cannot write"
 
 for path in "$room/none" "$room" /proc/self/mem; do
-  "$program" play "$path" "$schedule" >"$room/out" 2>"$room/err"; status=$?
-  wanted "an unreadable configuration, $path" 2 "cannot read $path"
-  "$program" play "$config" "$path" >"$room/out" 2>"$room/err"; status=$?
-  wanted "an unreadable schedule, $path" 2 "cannot read $path"
+  runs "an unreadable configuration, $path" 2 "cannot read $path" play "$path" "$schedule"
+  runs "an unreadable schedule, $path" 2 "cannot read $path" play "$config" "$path"
 done
 
-"$program" play "$config" "$room/"$'a\n\e[31mb' >"$room/out" 2>"$room/err"; status=$?
-wanted "a path of control characters" 2 "cannot read $room/a\\u{0a}\\u{1b}[31mb"
+runs "a path of control characters" 2 "cannot read $room/a\\u{0a}\\u{1b}[31mb" play "$config" "$room/"$'a\n\e[31mb'
 
-"$program" play "$config" $'\xff' >"$room/out" 2>"$room/err"; status=$?
-wanted "a word that isn't text" 2 "words: text"
+runs "a word that isn't text" 2 "words: text" play "$config" $'\xff'
 
 printf '"a\\u001bb" = 1\n' >"$room/key.toml"
-"$program" play "$room/key.toml" "$schedule" >"$room/out" 2>"$room/err"; status=$?
-wanted "a key of control characters" 2 'config: unknown a\u{1b}b'
+runs "a key of control characters" 2 'config: unknown a\u{1b}b' play "$room/key.toml" "$schedule"
 
 "$program" --version >"$room/out" 2>"$room/err"; status=$?
 [[ $(cat "$room/out") =~ ^cb_play\ [0-9.]+$ ]] || { echo "the version is $(cat "$room/out")"; bad=1; }

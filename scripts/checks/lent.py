@@ -63,7 +63,5 @@ def main(words: list[str]) -> int:
     _, (runs, seed) = numbers(words, "lent [RUNS [SEED]]", 200, 1)
     with building.a_room() as room:
         first = [room / "first.db", 2, 2, 10, 1]
-        program = building.named("LENT") or building.program(
-            "lent_bytes", LIBRARIES, map(str, first), room
-        )
+        program = building.program("lent_bytes", LIBRARIES, map(str, first), room, "LENT")
         return counted(program, Path(room), runs, seed)

@@ -40,7 +40,7 @@ class Measured:
 def of_server(room):
     """The greatest memory of a server after so many commits, or with what else is said. It is the
     median of nine runs: so little memory differs by a tenth, by what the system has cached."""
-    program = building.named("PROGRAM") or building.program("server_memory", SERVER, ["1"], room)
+    program = building.program("server_memory", SERVER, ["1"], room)
     measured = Measured(program, room)
 
     def median(*more):
@@ -52,7 +52,7 @@ def of_server(room):
 def of_run(room):
     """The same of one run after so many jobs, over a new store each time."""
     first = [f"{room}/first.db", "1"]
-    program = building.named("PROGRAM") or building.program("run_memory", RUN, first, room)
+    program = building.program("run_memory", RUN, first, room)
     measured = Measured(program, room)
 
     def run(*more):

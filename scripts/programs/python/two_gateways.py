@@ -16,20 +16,11 @@ import sys
 import threading
 import time
 
+from relay import exactly
+
 GREETING, NAME_AT, TOKEN_AT = 42, 9, 10
 SEAT = struct.Struct(">BBHQ7I")
 NOT_SERVED = 5
-
-
-def exactly(stream: socket.socket, count: int) -> bytes:
-    """So many bytes."""
-    found = b""
-    while len(found) < count:
-        got = stream.recv(count - len(found))
-        if not got:
-            raise EOFError
-        found += got
-    return found
 
 
 def connected(path: str) -> socket.socket:
