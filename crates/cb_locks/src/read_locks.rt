@@ -1,6 +1,6 @@
 //! The pages that a client's transaction reads.
 ghost use Rattle.std.specs.Prelude.{◌≡◌, ℕ, ◌+◌, ◌<◌, ◌≤◌, IsSome, Some, None, [], true};
-ghost use Rattle.std.specs.Prelude.{false, length, map, count_by, reverse};
+ghost use Rattle.std.specs.Prelude.{false, length, map, count_by};
 ghost use Rattle.std.specs.Prelude.{slice_set, IfOk, IfSome, IsOk, OnOk, OnErr};
 ghost use Rattle.std.specs.Option.{is_some};
 ghost use Rattle.std.specs.Vec.{vec_capacity};
@@ -161,13 +161,13 @@ impl ReadLocks {
     }
 
     /// The transaction ends: nothing is locked or due any more. What was due for each page is
-    /// returned once. The greatest page comes first in the list, so `pop` gives the pages in rising
-    /// order.
+    /// returned once, in rising order of the pages. A callback can't be dropped: `into_iter` and
+    /// `next` take the list apart from its front, and `destroy_empty` ends it.
     ///
     /// `AllocError` only if memory for the pages due was refused; nothing changes then.
     pub fn end(&mut self, alloc: Global) -> Result<Vec<CallbackDue>, AllocError>
         ensures handed { IfOk result (λ dues.
-            reverse dues.items ≡ owed_below self.old (length self.old.locked)) }
+            dues.items ≡ owed_below self.old (length self.old.locked)) }
         ensures ok { OnOk result (self.new ≡ ended self.old) }
         ensures err { OnErr result (self.new ≡ self.old) }
         ensures room { IfOk result (λ dues.
@@ -176,7 +176,6 @@ impl ReadLocks {
     {
         let mut handed = Vec::with_capacity(alloc, self.due_count())?;
         self.hand_out(&mut handed);
-        handed.reverse();
         self.clear();
         Ok(handed)
     }
