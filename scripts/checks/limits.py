@@ -9,6 +9,7 @@ Each of these is played or called once, and what comes is compared with what is 
 - each page size, 16 to 65,536: a play, and the frames of a client and of a server in both versions
 - a hundred incarnations of a client
 - 120,000 commits, which are 960,000 events and 240,000 packets
+- a million events, as many as there may be
 - a run of 100,000 jobs, and then as many commits of one stream of `serve`
 - a run, and then `serve` over its store, at each number of clients, and of pages, page sizes and
   slots at and beside powers of two
@@ -33,7 +34,7 @@ from checks.frames import (
 )
 from checks.trying import ran
 
-COMMITS = 120_000
+COMMITS, EVENTS = 120_000, 1_000_000
 NAMES = ["clients", "pages", "page_size", "slots", "kin", "kout", "keep_write"]
 
 
@@ -190,6 +191,14 @@ def all_commits(given):
     return schedule
 
 
+def most_events(given):
+    """As many events as there may be; none of them does anything."""
+    schedule = Schedule(given)
+    for _ in range(EVENTS):
+        schedule.event("flush", "none")
+    return schedule
+
+
 def schedules():
     """What is played: of each a name, and what makes it."""
     for clients, keep in itertools.product(range(1, 33), (0, 1)):
@@ -208,6 +217,7 @@ def schedules():
     yield all_incarnations, limits()
     yield all_incarnations, limits(clients=32, keep_write=1)
     yield all_commits, limits(keep_write=1)
+    yield most_events, limits()
 
 
 def frame(kind, body=b"", client=0, version=2):

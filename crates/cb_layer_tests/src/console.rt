@@ -3,4 +3,5 @@
 mod greatest;
 mod histories;
 mod often;
+mod packets;
 mod plays;

@@ -18,8 +18,6 @@ mod example;
 #[cfg(test)]
 mod frame;
 #[cfg(test)]
-mod lives;
-#[cfg(test)]
 mod server;
 #[cfg(test)]
 mod shelf;

@@ -117,6 +117,7 @@ fn play_other<Q: Chooser, O: Write>(
     match word {
         "<" | "!" | "references" => Ok(()),
         "again" => say_again(alloc, client, out),
+        "hello" => hello(alloc, client, out),
         "begin" => begin(client, out),
         "finish" => finish(alloc, client, out),
         "drop" => drop_txn(alloc, client, out),
@@ -206,6 +207,18 @@ fn say_again<Q: Chooser, O: Write>(
     }
 }
 
+/// The client greets.
+fn hello<Q: Chooser, O: Write>(alloc: Global, client: &Client<Q>, out: &mut O) -> io::Result<()> {
+    let frame = client.hello();
+    put_done(
+        alloc,
+        client.limits(),
+        "hello",
+        slice::from_ref(&frame),
+        out,
+    )
+}
+
 /// Prints that a call of one word was refused.
 fn refused<O: Write>(word: &str, fault: ClientFault, out: &mut O) -> io::Result<()> {
     writeln!(out, "{word} ! {fault:?}")
@@ -230,7 +243,7 @@ fn finish<Q: Chooser, O: Write>(
         finished => finished,
     };
     match finished {
-        Ok(frame) => put_end(
+        Ok(frame) => put_done(
             alloc,
             client.limits(),
             "finish",
@@ -252,13 +265,13 @@ fn drop_txn<Q: Chooser, O: Write>(
         dropped => dropped,
     };
     match dropped {
-        Ok(frames) => put_end(alloc, client.limits(), "drop", frames.as_slice(), out),
+        Ok(frames) => put_done(alloc, client.limits(), "drop", frames.as_slice(), out),
         Err(fault) => refused("drop", fault, out),
     }
 }
 
-/// Prints that a transaction is ended by a call of one word, and what is sent.
-fn put_end<O: Write>(
+/// Prints that a call of one word succeeded, and what is sent.
+fn put_done<O: Write>(
     alloc: Global,
     limits: &Limits,
     word: &str,

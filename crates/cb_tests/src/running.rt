@@ -15,6 +15,7 @@ mod giving_up;
 mod hurried;
 mod late;
 mod lines;
+mod looking;
 mod other_limits;
 mod pacing;
 mod refusals;

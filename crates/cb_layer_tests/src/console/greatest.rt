@@ -1,5 +1,6 @@
-//! Worlds of 32 clients and 4,096 pages: a call that answers want of memory from some number of
-//! clients or of pages on is refused here, which no clause can say.
+//! Worlds of 32 clients and 4,096 pages: a step that answers want of memory from some number of
+//! clients or of pages on is refused here, which no clause can say. Of a play the stored run of
+//! `cb_play` shows it (`every_client_reads_a_page`).
 
 use cb_commit::Store;
 use cb_page::{ClientNo, Limits, PageNo};
@@ -80,23 +81,9 @@ fn commits_by_step(alloc: Global, limits: &Limits) -> Option<usize> {
     if played { Some(commits) } else { None }
 }
 
-/// The same of a play of all events.
-fn commits_by_play(alloc: Global, limits: &Limits) -> Option<usize> {
-    let events = events_of_all(alloc, limits)?;
-    let told = world_of(alloc, limits)?.play(events.as_slice()).ok()?;
-    Some(told.commits().len())
-}
-
 #[test]
 fn all_clients_by_step(rt: HostRuntime) -> Result<(), Fail> {
     let limits = Limits::new(32, 4096, 16, 8, 1, 8)?;
     assert!(rt; commits_by_step(rt.alloc(), &limits) == Some(32));
-    Ok(())
-}
-
-#[test]
-fn all_clients_by_play(rt: HostRuntime) -> Result<(), Fail> {
-    let limits = Limits::new(32, 4096, 16, 8, 1, 8)?;
-    assert!(rt; commits_by_play(rt.alloc(), &limits) == Some(32));
     Ok(())
 }

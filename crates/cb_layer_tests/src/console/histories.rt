@@ -25,14 +25,15 @@ fn tell(
     Ok(())
 }
 
-/// The transaction of that number begins, and writes its sixteen pages.
+/// The transaction of that number begins, and writes so many of its sixteen pages.
 fn tell_writes(
     alloc: Global,
     entries: &mut Vec<TranscriptEntry>,
     number: u16,
+    writes: u32,
 ) -> Result<(), AllocError> {
     tell(alloc, entries, number, Call::Begin, AnswerWord::Ok)?;
-    for offset in 0..16 {
+    for offset in 0..writes.min(16) {
         let page = PageNo::new((u32::from(number) * 16 + offset) % 4096);
         let bytes = page_of(alloc, 7, 16)?;
         let call = Call::Write { page, bytes };
@@ -41,12 +42,15 @@ fn tell_writes(
     Ok(())
 }
 
-/// So many transactions of the clients in turn, behind which one more reads the first page, which
-/// one of them wrote, as it was.
-fn entries_of(alloc: Global, count: u16) -> Result<Vec<TranscriptEntry>, AllocError> {
+/// So many transactions of the clients in turn, of so many writes each, behind which one more reads
+/// the first page, which one of them wrote, as it was.
+fn entries_of(
+    alloc: Global,
+    (count, writes): (u16, u32),
+) -> Result<Vec<TranscriptEntry>, AllocError> {
     let mut entries = Vec::new(alloc);
     for number in 0..count {
-        tell_writes(alloc, &mut entries, number)?;
+        tell_writes(alloc, &mut entries, number, writes)?;
     }
     let page = PageNo::new(0);
     let old = AnswerWord::Bytes(page_of(alloc, 0, 16)?);
@@ -83,25 +87,40 @@ fn names_of(alloc: Global, count: u16, first: bool) -> Result<Vec<TransactionNam
 fn verdict_of(
     alloc: Global,
     limits: &Limits,
-    count: u16,
+    told: (u16, u32),
     first: bool,
 ) -> Result<Verdict, AllocError> {
-    let names = names_of(alloc, count, first)?;
-    let entries = entries_of(alloc, count)?;
+    let names = names_of(alloc, told.0, first)?;
+    let entries = entries_of(alloc, told)?;
     let store = Store::zeros(alloc, limits)?;
     check_serial(alloc, &Transcript::from_parts(store, entries, names))
 }
 
-/// After one transaction, and after many at the greatest limits: what was read as it was before is
-/// legal if it committed before them.
+/// Whether what was read as it was before is legal if it committed before the others, and the first
+/// that isn't legal if it committed behind them.
+fn has_its_place(alloc: Global, limits: &Limits, told: (u16, u32)) -> Result<bool, AllocError> {
+    let not = Verdict::Not {
+        commit: u64::from(told.0) + 1,
+        op: 1,
+    };
+    Ok(
+        verdict_of(alloc, limits, told, true)? == Verdict::Serial
+            && verdict_of(alloc, limits, told, false)? == not,
+    )
+}
+
+/// After one transaction of one write.
 #[test]
 fn not_serial(rt: HostRuntime) -> Result<(), Fail> {
+    let limits = Limits::new(2, 8, 16, 4, 1, 2)?;
+    assert!(rt; has_its_place(rt.alloc(), &limits, (1, 1))?);
+    Ok(())
+}
+
+/// After many at the greatest limits, of sixteen writes each.
+#[test]
+fn not_serial_behind_many(rt: HostRuntime) -> Result<(), Fail> {
     let limits = Limits::new(32, 4096, 16, 1024, 1023, 4096)?;
-    for count in [1u16, 2047] {
-        assert!(rt; verdict_of(rt.alloc(), &limits, count, true)? == Verdict::Serial);
-        let commit = u64::from(count) + 1;
-        let not = Verdict::Not { commit, op: 1 };
-        assert!(rt; verdict_of(rt.alloc(), &limits, count, false)? == not);
-    }
+    assert!(rt; has_its_place(rt.alloc(), &limits, (2047, 16))?);
     Ok(())
 }

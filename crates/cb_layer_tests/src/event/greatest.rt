@@ -1,7 +1,8 @@
-//! A schedule of more events than there may be.
+//! A long schedule: a reader that answers want of memory from some number of events on is refused
+//! here, which no clause can say. `scripts/check limits` plays as many as there may be.
 
 use cb_page::Limits;
-use cb_transcript::{ScheduleFault, read_schedule};
+use cb_transcript::read_schedule;
 use std::alloc::{AllocError, Global};
 
 /// A text, doubled so many times.
@@ -14,16 +15,15 @@ fn doubled(alloc: Global, text: &str, times: u32) -> Result<String, AllocError> 
     Ok(all)
 }
 
-/// The fault of 1,048,576 events, one a line.
-fn fault_of_all(alloc: Global) -> Option<ScheduleFault> {
+/// How many events are read of a schedule of 131,072, one a line.
+fn events_of_all(alloc: Global) -> Option<usize> {
     let limits = Limits::new(32, 4096, 16, 1024, 1023, 4096).ok()?;
-    let text = doubled(alloc, "flush\n", 20).ok()?;
-    read_schedule(alloc, &limits, text.as_bytes()).err()
+    let text = doubled(alloc, "flush\n", 17).ok()?;
+    let events = read_schedule(alloc, &limits, text.as_bytes()).ok()?;
+    Some(events.len())
 }
 
-/// A million events are read, since want of memory would be told of an event before the one that is
-/// too many.
 #[test]
-fn most_events(rt: HostRuntime) {
-    assert!(rt; fault_of_all(rt.alloc()) == Some(ScheduleFault::Long { line: 1_000_001 }));
+fn many_events(rt: HostRuntime) {
+    assert!(rt; events_of_all(rt.alloc()) == Some(131_072));
 }

@@ -193,10 +193,14 @@ fn are_alike(left: &Lists, right: &Lists) -> bool {
         && left.a1out.as_slice() == right.a1out.as_slice()
 }
 
-/// Each page of the greatest store twice, with no page fixed.
-fn all_twice(alloc: Global) -> Result<Vec<(PageNo, PageSet)>, AllocError> {
+/// So many references.
+const COUNT: u32 = 5120;
+
+/// Each page of the greatest store, and then as many as there are slots once more, with no page
+/// fixed.
+fn all_and_more(alloc: Global) -> Result<Vec<(PageNo, PageSet)>, AllocError> {
     let mut references = Vec::new(alloc);
-    for i in 0..8192u32 {
+    for i in 0..COUNT {
         let fixed = PageSet::new(alloc, 4096)?;
         references.push((PageNo::new(i % 4096), fixed))?;
     }
@@ -212,12 +216,13 @@ fn are_all_answered<Q: TwoForms>(
     let answers = run_refs(alloc, chooser, references)?;
     let lists = chooser.copied(alloc)?;
     let in_slots = lists.a1in.len().saturating_add(lists.am.len());
-    Ok(in_slots == 1024 && answers.iter().filter(|answer| answer.is_ok()).count() == 8192)
+    let answered = answers.iter().filter(|answer| answer.is_ok()).count();
+    Ok(in_slots == 1024 && answered == COUNT as usize)
 }
 
-/// The same of a new chooser, by each page of the greatest store twice.
-fn takes_all_twice<Q: TwoForms>(alloc: Global, limits: &Limits) -> Result<bool, AllocError> {
-    let references = all_twice(alloc)?;
+/// The same of a new chooser, by these references.
+fn takes_all<Q: TwoForms>(alloc: Global, limits: &Limits) -> Result<bool, AllocError> {
+    let references = all_and_more(alloc)?;
     let mut chooser = Q::make(alloc, limits)?;
     are_all_answered(alloc, &mut chooser, &references)
 }
@@ -226,8 +231,8 @@ fn takes_all_twice<Q: TwoForms>(alloc: Global, limits: &Limits) -> Result<bool, 
 #[test]
 fn greatest_limits(rt: HostRuntime) -> Result<(), Fail> {
     let limits = Limits::new(32, 4096, 4096, 1024, 1023, 4096)?;
-    assert!(rt; takes_all_twice::<TwoQ>(rt.alloc(), &limits)?);
-    assert!(rt; takes_all_twice::<PlainTwoQ>(rt.alloc(), &limits)?);
+    assert!(rt; takes_all::<TwoQ>(rt.alloc(), &limits)?);
+    assert!(rt; takes_all::<PlainTwoQ>(rt.alloc(), &limits)?);
     Ok(())
 }
 

@@ -140,6 +140,6 @@ fn all_are_committed(
 #[test]
 fn all_pages_are_committed(rt: HostRuntime) {
     let frames = [31, 31, 31, 31];
-    assert!(rt; all_are_committed(rt.alloc(), 4096, 4096) == Some((frames, 0, [4096, 32])));
-    assert!(rt; all_are_committed(rt.alloc(), 4, 65_536) == Some((frames, 0, [4, 32])));
+    assert!(rt; all_are_committed(rt.alloc(), 4096, 16) == Some((frames, 0, [4096, 32])));
+    assert!(rt; all_are_committed(rt.alloc(), 16, 65_536) == Some((frames, 0, [16, 32])));
 }

@@ -1,6 +1,8 @@
 //! Lives of a server over a shelf: with which floors they begin, and what stops of the disks leave.
 
-use crate::shelf::disks::{Calls, Deed, Outcome, Session, calls_of, files_that_stop, run_session};
+use crate::shelf::disks::{
+    Calls, Deed, Outcome, Session, calls_of, files_that_stop, first_stop, run_session,
+};
 use crate::shelf::reopened::outcomes;
 use crate::shelf::shapes::{NEW, OLD};
 use cb_page::Limits;
@@ -142,12 +144,13 @@ fn stopped(alloc: Global, calls: Calls, session: Session<'_>, first: u64) -> Opt
 }
 
 /// Whether each stop of a disk leaves a floor as it may, some come as a life begins and some as it
-/// gets room, and at last none comes.
+/// gets room, and at last none comes. Of those in the shelf's open the last ones are looked at.
 fn survives_stops(alloc: Global, limits: &Limits, text: &str, first: u64, is_log: bool) -> bool {
     let session = living(limits, text, first.wrapping_add(HELLO));
+    let start = first_stop(alloc, session, is_log, true);
     let mut stops = Stops::default();
-    for count in 0..1_000 {
-        let calls = calls_of(is_log, count);
+    for more in 0..1_000u64 {
+        let calls = calls_of(is_log, start.saturating_add(more));
         match stopped(alloc, calls, session, first) {
             Some(Outcome::Lived(_, true)) => return stops.beginning > 0 && stops.raising > 0,
             Some(reached) => stops.count(reached),
