@@ -3,9 +3,9 @@
     scripts/bench station [RUNS]      the least of three runs
 
 A transaction of one client reads two pages and writes both (`commit`), with the copies given back;
-one that holds all pages and writes two (`keep`); and one with the flush of what it committed
-(`flush`). It prints microseconds of processor time, less that of runs that have the same commits
-before and none of what is measured.
+one that holds all pages and writes two (`keep`); and one whose commit is written behind all others,
+in one batch to a shelf in memory, and reported (`flush`). It prints microseconds of processor time,
+less that of runs that have the same commits before and none of what is measured.
 
 It needs the program of scripts/programs/station_speed, which is built first unless PROGRAM names a
 built one. Three runs take some minutes.
@@ -17,7 +17,10 @@ from costs import cost
 SETTINGS = [
     (64, 16, 10), (64, 16, 100_000), (4096, 16, 10), (4096, 16, 100_000), (64, 4096, 10),
 ]
-LIBRARIES = ["cb_page", "cb_frame", "cb_commit", "cb_hands", "cb_station"]
+LIBRARIES = [
+    "cb_page", "cb_frame", "cb_commit", "cb_hands", "cb_shelf", "cb_station", "sqlite",
+    "sqlite_disk",
+]
 
 
 def main(words):

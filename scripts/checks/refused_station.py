@@ -4,7 +4,10 @@ import shutil
 import building
 from checks.refusing import Refusing
 
-CRATES = ["cb_page", "cb_frame", "cb_commit", "cb_hands", "cb_station", "cb_test_parts"]
+CRATES = [
+    "cb_page", "cb_frame", "cb_commit", "cb_hands", "cb_shelf", "cb_station", "cb_test_parts",
+    "sqlite", "sqlite_disk",
+]
 TEST = "office::growths::refused_growths"
 ROOT = """//! Refused growths.
 #![tactic(auto)]
@@ -22,8 +25,11 @@ def built_tests(room):
     source, tests = crate / "src", building.TOP / "crates/cb_tests/src"
     (source / "office").mkdir()
     shutil.move(source / "growths.rt", source / "office")
-    shutil.copy(tests / "office/frames.rt", source / "office")
-    (source / "office.rt").write_text("//! Frames and growths.\nmod frames;\nmod growths;\n")
+    for part in ("batches", "frames"):
+        shutil.copy(tests / f"office/{part}.rt", source / "office")
+    (source / "office.rt").write_text(
+        "//! Batches, frames and growths.\nmod batches;\nmod frames;\nmod growths;\n"
+    )
     (source / "lib.rt").write_text(ROOT)
     if below := building.named("BELOW"):
         return building.linked(crate, CRATES, below, "--test")

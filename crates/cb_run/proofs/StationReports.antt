@@ -1,35 +1,23 @@
 -- What a station has on disk once a batch is reported.
 use Rattle.std.proofs.Common.{◌≡◌, ◌∙◌, ℕ, ◌≤◌, ◌<◌, Bool, true, false, Result, Ok, Err, OnOk, OnErr, ap, arith, max, refl, subst, sym}
-use Rattle.std.proofs.lemmas.Bool.Decides.{nat_tests}
 use Rattle.cb_mailboxes.specs.Dispatching.{Everybody, Posts}
-use Rattle.cb_protocol.proofs.NoCycles.{sends_dones}
-use Rattle.cb_protocol.proofs.SettlingClears.{after_noted}
 use Rattle.cb_protocol.specs.AnyMessages.{ReachesDisk}
-use Rattle.cb_protocol.specs.Flush.{can_flush, dones_between}
-use Rattle.cb_protocol.specs.Server.{Server, SetFlushed}
+use Rattle.cb_protocol.specs.Flush.{can_flush}
+use Rattle.cb_protocol.specs.Server.{Server}
+use Rattle.cb_station.proofs.Reporting.{above, greater_flushed, posts_flushed}
 use Rattle.cb_station.specs.Stations.{IsUnchanged, StationState, forgot, mailbox_of, server_of}
 use Rattle.cb_station.specs.Telling.{Tells}
 use Rattle.cb_run.specs.Reporting.{ReportsUpTo}
-
--- a number that can be flushed is above what is on disk
-above : (s : Server) (n : ℕ) → can_flush s n ≡ true → s.flushed < n
-above s n e = grind (arith, nat_tests)
 
 -- what isn't at most a number is above it
 below : (m n : ℕ) → ¬ (n ≤ m) → m < n
 below m n not = grind arith
 
--- a report puts the number of the last commit on disk up to that one
-posts_flushed : (old mid : StationState) (n : ℕ) → Posts old.dispatcher (ReachesDisk n) (mailbox_of old) Everybody mid.dispatcher → (server_of mid).flushed ≡ n
-posts_flushed old mid n posts =
-    let s = server_of old in
-    ap (λ (k : Server). k.flushed) (posts.does.becomes ∙ after_noted s (dones_between s.commits s.flushed n) (SetFlushed n) (sends_dones s.commits s.flushed n))
-
 flushed_at : (b : Bool) (old mid : StationState) (n : ℕ) → can_flush (server_of old) n ≡ b
     → (can_flush (server_of old) n ≡ true → Posts old.dispatcher (ReachesDisk n) (mailbox_of old) Everybody mid.dispatcher)
     → (can_flush (server_of old) n ≡ false → IsUnchanged old mid) → n ≤ (server_of mid).flushed → (server_of mid).flushed ≡ max n (server_of old).flushed
 flushed_at true old mid n is says silent far =
-    let e = posts_flushed old mid n (says is) in let low = above (server_of old) n is in omega arith
+    greater_flushed old mid n is (says is)
 flushed_at false old mid n is says silent far =
     let same : (server_of mid).flushed ≡ (server_of old).flushed = ap (λ (k : Server). k.flushed) (silent is).dispatcher.server.server in omega arith
 

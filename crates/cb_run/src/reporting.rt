@@ -47,12 +47,12 @@ pub(crate) fn report_at(
 {
     let number = written.number();
     // Whether that was refused, the station shows.
-    let _ = station.flushed(alloc, number);
+    let _ = station.flushed(alloc, &written);
     let on_disk = station.is_on_disk(number);
     if !on_disk {
         return Err(AllocError);
     }
-    station.forget(number);
+    station.forget(written);
     let next = station.next_commit();
     Ok(Reported { number, next })
 }

@@ -15,6 +15,7 @@
 -- Admitting: what a commit is answered, by why it is refused or that it is allowed.
 -- Telling: a station stays one whoever is told, and whatever threads tell each other.
 -- Committed: what a commit that was taken, and noted, leaves.
+-- Reporting: what a station has on disk once a batch is reported.
 pub mod Reached
 pub mod Keeping
 pub mod Following
@@ -31,3 +32,4 @@ pub mod Calls
 pub mod Admitting
 pub mod Telling
 pub mod Committed
+pub mod Reporting

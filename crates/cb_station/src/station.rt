@@ -34,6 +34,7 @@ use cb_frame::Frame;
 use cb_hands::{Entry, Hand, JoinedHands};
 use cb_mailboxes::Dispatcher;
 use cb_page::{ClientNo, ClientSet, CommitNo, Incarnation, Limits};
+use cb_shelf::Written;
 use std::alloc::{AllocError, Global};
 use std::marker::Model;
 
@@ -256,14 +257,14 @@ impl Station {
         number.get() <= self.dispatcher.server().state().commits.last_flushed()
     }
 
-    /// Forgets the commits up to this number, which are on disk: they leave memory, and so do their
-    /// entries of the history. Its cost grows with their number alone, however many are left.
+    /// Forgets the commits up to a batch that was written and reported: they leave memory, and so do
+    /// their entries of the history. Its cost grows with their number alone, however many are left.
     /// Nothing changes if they were forgotten before, or if no commit has a number as low.
-    pub fn forget(&mut self, number: CommitNo)
-        requires on_disk { number ≤ (server_of self.old).flushed }
-        ensures { self.new ≡ forgot self.old number }
+    pub fn forget(&mut self, written: Written)
+        requires on_disk { written ≤ (server_of self.old).flushed }
+        ensures { self.new ≡ forgot self.old written }
     {
-        self.dispatcher.forget(number);
+        self.dispatcher.forget(written.number());
         let commits = &self.dispatcher.server().state().commits;
         let count = self.history.remembered().len() - commits.committed().len();
         self.history.forget(count);

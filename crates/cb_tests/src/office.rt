@@ -1,7 +1,8 @@
 //! A station.
 
-mod case;
+mod batches;
+pub(crate) mod case;
 mod frames;
-mod limits;
+pub(crate) mod limits;
 mod stations;
 mod turns;

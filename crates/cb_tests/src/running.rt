@@ -23,7 +23,7 @@ mod run;
 mod sharing;
 mod stops;
 mod tickets;
-mod trials;
+pub(crate) mod trials;
 mod unwatched;
 mod visits;
 mod wanting;

@@ -1,6 +1,6 @@
 //! The frames of a client, and what is flushed.
-ghost use Rattle.std.specs.Prelude.{◌≡◌, ◌↔◌, ◌⊎◌, ◌<◌, true, false, IfErr, Ok};
-ghost use Rattle.std.specs.Prelude.{Err, OnErr, OnOk};
+ghost use Rattle.std.specs.Prelude.{◌≡◌, ◌↔◌, ◌⊎◌, ◌<◌, ◌≤◌, true, false, IfErr, Ok};
+ghost use Rattle.std.specs.Prelude.{Err, OnErr, OnOk, max};
 ghost use Rattle.cb_mailboxes.specs.Dispatching.{Everybody, Posts};
 ghost use Rattle.cb_hands.specs.Joined.{Follow, IsHeld};
 ghost use Rattle.cb_station.specs.Moves.{IsOwn, ended_if_over, given_back, is_plain, is_stray};
@@ -17,9 +17,9 @@ use crate::station::Station;
 use cb_frame::{Body, Frame, ShortBody};
 use cb_hands::{Hand, JoinedHands};
 use cb_links::Standing;
-use cb_page::CommitNo;
 use cb_server::ServerFault;
 use cb_server_state::ServerState;
+use cb_shelf::Written;
 use std::alloc::Global;
 
 impl Station {
@@ -69,13 +69,17 @@ impl Station {
         Ok(())
     }
 
-    /// The commits up to this number are on disk. Nothing changes if there is no such commit, or it
-    /// was on disk already. `Memory` only if a growth was refused.
-    pub fn flushed(&mut self, alloc: Global, number: CommitNo) -> Result<(), OfficeFault>
-        ensures idle { can_flush (server_of self.old) number ≡ false
+    /// The commits up to a batch that was written are on disk. Nothing changes if there is no such
+    /// commit, or it was on disk already. `Memory` only if a growth was refused; the same batch may
+    /// be reported again then.
+    pub fn flushed(&mut self, alloc: Global, written: &Written) -> Result<(), OfficeFault>
+        ensures number { OnOk result
+            (written.now ≤ (server_of self.old).store.last_commit
+            → (server_of self.new).flushed ≡ max written.now (server_of self.old).flushed) }
+        ensures idle { can_flush (server_of self.old) written.now ≡ false
             → (result ≡ Ok tt) × IsUnchanged self.old self.new }
-        ensures posts { OnOk result (can_flush (server_of self.old) number ≡ true
-            → Posts self.old.dispatcher (ReachesDisk number) (mailbox_of self.old) Everybody
+        ensures posts { OnOk result (can_flush (server_of self.old) written.now ≡ true
+            → Posts self.old.dispatcher (ReachesDisk written.now) (mailbox_of self.old) Everybody
             self.new.dispatcher) }
         ensures faults { IfErr result (λ fault. fault ≡ office.Memory) }
         ensures err { OnErr result (IsUnchanged self.old self.new) }
@@ -83,6 +87,7 @@ impl Station {
         ensures history { self.new.history ≡ self.old.history }
         ensures flags { self.new.flags ≡ self.old.flags }
     {
+        let number = written.number();
         if !self.dispatcher.server().can_flush(number) {
             return Ok(());
         }

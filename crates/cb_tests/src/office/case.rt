@@ -3,10 +3,13 @@ use crate::office::frames::{
     ask_read, ask_write, commit, commit_one, insert, is_granted, is_told, no_writes, shown,
 };
 use crate::office::stations::{over_zeros, two_join};
+use crate::running::trials::{Trial, goes_well};
 use cb_frame::ShortBody;
 use cb_hands::Hand;
 use cb_page::{ClientNo, CommitNo, GrantNo, Incarnation, PageNo, PageSet, TxnNo, Version};
+use cb_shelf::{Shelf, Written};
 use cb_station::{OfficeFault, Station};
+use sqlite::Alter;
 use std::alloc::{AllocError, Global};
 
 /// The first client reads page 0 and may write it.
@@ -91,32 +94,51 @@ fn is_noted(station: &Station) -> bool {
         && entry.writes[0] == PageNo::new(0)
 }
 
+/// The station's next batch, written twice to the shelf, as it may be by whom a report was refused.
+fn written_twice<S: Alter>(
+    alloc: Global,
+    station: &Station,
+    shelf: &mut Shelf<S>,
+) -> Option<(Written, Written)> {
+    let batch = station.batch(alloc).ok()??;
+    let first = shelf.write(&batch).ok()?;
+    Some((first, shelf.write(&batch).ok()?))
+}
+
 /// What is to be written to disk is that commit; then nothing is.
-fn flushes(alloc: Global, station: &mut Station, one: &mut Hand) -> Result<bool, OfficeFault> {
+fn flushes<S: Alter>(
+    alloc: Global,
+    station: &mut Station,
+    shelf: &mut Shelf<S>,
+    one: &mut Hand,
+) -> Result<bool, OfficeFault> {
     let number = CommitNo::new(1);
-    let mut good = match station.batch(alloc)? {
-        Some(batch) => batch.number() == number,
-        None => false,
+    let Some((first, again)) = written_twice(alloc, station, shelf) else {
+        return Ok(false);
     };
-    station.flushed(alloc, number)?;
+    let mut good = first.number() == number;
+    station.flushed(alloc, &first)?;
     let txn = TxnNo::new(1);
     good = is_told(station.collect(one), ShortBody::Done { txn, number }) && good;
-    station.flushed(alloc, number)?;
+    station.flushed(alloc, &again)?;
     good = station.collect(one)?.is_none() && good;
     good = station.batch(alloc)?.is_none() && good;
-    Ok(is_forgotten(station, number) && good)
+    Ok(is_forgotten(station, first, again) && good)
 }
 
 /// The commit is on disk and the next isn't; once it is forgotten its entry is gone, also where
 /// that is said again.
-fn is_forgotten(station: &mut Station, number: CommitNo) -> bool {
-    if !station.is_on_disk(number) || station.is_on_disk(CommitNo::new(2)) {
+fn is_forgotten(station: &mut Station, first: Written, again: Written) -> bool {
+    if !station.is_on_disk(first.number()) || !station.is_on_disk(again.number()) {
+        return false;
+    }
+    if station.is_on_disk(CommitNo::new(2)) {
         return false;
     }
     let before = station.history().len();
-    station.forget(number);
+    station.forget(first);
     let after = station.history().len();
-    station.forget(number);
+    station.forget(again);
     before == 1 && after == 0 && station.history().is_empty()
 }
 
@@ -163,7 +185,11 @@ fn leaves(alloc: Global, station: &mut Station, hand: Hand) -> bool {
 }
 
 /// The whole case.
-fn grants_and_commits(alloc: Global, station: &mut Station) -> bool {
+fn grants_and_commits<S: Alter>(
+    alloc: Global,
+    station: &mut Station,
+    shelf: &mut Shelf<S>,
+) -> bool {
     let Some((mut one, mut two)) = two_join(alloc, station) else {
         return false;
     };
@@ -171,7 +197,7 @@ fn grants_and_commits(alloc: Global, station: &mut Station) -> bool {
     good = commits(alloc, station, &mut one).unwrap_or(false) && good;
     good = follows(alloc, station, &one, &mut two) && good;
     good = is_noted(station) && good;
-    good = flushes(alloc, station, &mut one).unwrap_or(false) && good;
+    good = flushes(alloc, station, shelf, &mut one).unwrap_or(false) && good;
     two.abandon();
     match restarts(alloc, station, one) {
         Some(hand) => leaves(alloc, station, hand) && good,
@@ -179,12 +205,15 @@ fn grants_and_commits(alloc: Global, station: &mut Station) -> bool {
     }
 }
 
+/// Whether a new station over zeros goes through it. The shelf has two of its pages.
+pub(crate) fn is_worked_through<S: Alter>(alloc: Global, shelf: &mut Shelf<S>) -> bool {
+    match over_zeros(alloc) {
+        Some(mut station) => grants_and_commits(alloc, &mut station, shelf),
+        None => false,
+    }
+}
+
 #[test]
 fn station_grants(rt: HostRuntime) {
-    let alloc = rt.alloc();
-    let good = match over_zeros(alloc) {
-        Some(mut station) => grants_and_commits(alloc, &mut station),
-        None => false,
-    };
-    assert!(rt; good);
+    assert!(rt; goes_well(Trial::Station, &rt, rt.alloc()));
 }

@@ -1,9 +1,13 @@
 //! A station at the greatest limits.
+use crate::office::batches::first_written;
 use crate::office::frames::{ask_read, ask_write, commit, insert, no_writes, write};
 use crate::office::stations::greatest;
+use crate::running::trials::{Trial, goes_well};
 use cb_hands::Hand;
-use cb_page::{ClientNo, PageNo, PageSet, TxnNo};
+use cb_page::{ClientNo, Limits, PageNo, PageSet, TxnNo};
+use cb_shelf::{Shelf, Written};
 use cb_station::{OfficeFault, Station};
+use sqlite::Alter;
 use std::alloc::Global;
 
 /// How many pages are written: the last one of each 64.
@@ -31,12 +35,13 @@ fn is_permitted(
     Ok(true)
 }
 
-/// Commits all the pages; one batch has them.
+/// Commits all the pages; one batch has them. It is reported by what was written.
 fn commits(
     alloc: Global,
     station: &mut Station,
     hand: &mut Hand,
     txn: TxnNo,
+    first: &Written,
 ) -> Result<bool, OfficeFault> {
     let mut reads = PageSet::new(alloc, 4096)?;
     let mut writes = no_writes(alloc);
@@ -49,39 +54,57 @@ fn commits(
     }
     let frame = commit(hand, txn, writes);
     let number = station.commit(alloc, &frame, &reads, hand)?;
-    let written = match station.batch(alloc)? {
+    let pages = match station.batch(alloc)? {
         Some(batch) => batch.pages().len(),
         None => 0,
     };
-    station.flushed(alloc, number)?;
-    Ok(written == WRITTEN as usize && station.batch(alloc)?.is_none())
+    station.flushed(alloc, first)?;
+    let reported = first.number() == number && station.batch(alloc)?.is_none();
+    Ok(pages == WRITTEN as usize && reported)
 }
 
 /// The last client works alone, after all others have joined.
-fn last_works(alloc: Global, station: &mut Station) -> Result<bool, OfficeFault> {
+fn last_works(alloc: Global, station: &mut Station, first: &Written) -> Result<bool, OfficeFault> {
     for client in 0..31u16 {
         station.join(alloc, ClientNo::new(client))?.abandon();
     }
     let mut hand = station.join(alloc, ClientNo::new(31))?;
-    let worked = works(alloc, station, &mut hand);
+    let worked = works(alloc, station, &mut hand, first);
     hand.abandon();
     worked
 }
 
-fn works(alloc: Global, station: &mut Station, hand: &mut Hand) -> Result<bool, OfficeFault> {
+fn works(
+    alloc: Global,
+    station: &mut Station,
+    hand: &mut Hand,
+    first: &Written,
+) -> Result<bool, OfficeFault> {
     let txn = TxnNo::new(1);
     let _welcome = station.collect(hand)?;
     let permitted = is_permitted(alloc, station, hand, txn)?;
-    let committed = commits(alloc, station, hand, txn)?;
+    let committed = commits(alloc, station, hand, txn, first)?;
     let _done = station.collect(hand)?;
     Ok(permitted && committed && station.collect(hand)?.is_none())
 }
 
+/// Whether a client works at a station of the greatest limits. The shelf has no room for what it
+/// commits. So another first batch is written there: a report tells a batch by its number alone.
+pub(crate) fn works_at_the_greatest<S: Alter>(
+    alloc: Global,
+    limits: &Limits,
+    shelf: &mut Shelf<S>,
+) -> bool {
+    let Some(first) = first_written(alloc, limits, shelf) else {
+        return false;
+    };
+    match greatest(alloc) {
+        Some(mut station) => last_works(alloc, &mut station, &first).unwrap_or(false),
+        None => false,
+    }
+}
+
 #[test]
 fn greatest_limits(rt: HostRuntime) {
-    let worked = match greatest(rt.alloc()) {
-        Some(mut station) => last_works(rt.alloc(), &mut station).unwrap_or(false),
-        None => false,
-    };
-    assert!(rt; worked);
+    assert!(rt; goes_well(Trial::Greatest, &rt, rt.alloc()));
 }

@@ -1,6 +1,8 @@
 //! What is tried over an office and a shelf, which one function makes and lends.
 ghost use Rattle.std.specs.Prelude.{◌≡◌, false};
 
+use crate::office::case::is_worked_through;
+use crate::office::limits::works_at_the_greatest;
 use crate::running::alone::commits_and_leaves;
 use crate::running::clocks::OwnClock;
 use crate::running::disks::{NONE, both};
@@ -30,6 +32,10 @@ use std::time::Clock;
 /// What is tried over an office and a shelf, both of zeros.
 #[derive(Clone, Copy)]
 pub(crate) enum Trial<'a> {
+    /// Two clients of a station go through a worked case, step by step.
+    Station,
+    /// A client of a station at the greatest limits commits.
+    Greatest,
     /// So many calls of `work` are left to use the office, and these moments come one after
     /// another, each with the flags that it leaves.
     Flagged(usize, &'a [(Moment, Flags)]),
@@ -75,18 +81,19 @@ fn calls_of(trial: Trial<'_>) -> usize {
 }
 
 /// Whether a worker of client 0, the only one, does as it should.
-fn works<Q: Chooser, R: Wait>(
+fn works<Q: Chooser, R: Wait, S: Alter>(
     rt: &R,
     alloc: Global,
     limits: &Limits,
     office: &Office,
+    shelf: &mut Shelf<S>,
     leaves: bool,
 ) -> bool {
     let Ok(chooser) = Q::make(alloc, limits) else {
         return false;
     };
     match Worker::join(rt, alloc, office, limits, ClientNo::new(0), chooser) {
-        Ok(worker) if leaves => commits_and_leaves(rt, alloc, office, worker),
+        Ok(worker) if leaves => commits_and_leaves(rt, alloc, office, shelf, worker),
         Ok(worker) => drops_and_gives_up(rt, alloc, office, worker),
         Err(_) => false,
     }
@@ -102,11 +109,13 @@ fn comes_with<R: Wait + Threads + Clock + Sync, S: Alter>(
     shelf: &mut Shelf<S>,
 ) -> Outcome {
     let well = match trial {
+        Trial::Station => is_worked_through(alloc, shelf),
+        Trial::Greatest => works_at_the_greatest(alloc, limits, shelf),
         Trial::Flagged(_, moments) => follows(rt, alloc, office, moments),
         Trial::Woken(moment, flags) => wakes(rt, alloc, office, moment, flags),
         Trial::Shared => are_shared(rt, alloc, office),
-        Trial::Alone => works::<TwoQ, R>(rt, alloc, limits, office, true),
-        Trial::GivingUp => works::<TwoQ, R>(rt, alloc, limits, office, false),
+        Trial::Alone => works::<TwoQ, R, S>(rt, alloc, limits, office, shelf, true),
+        Trial::GivingUp => works::<TwoQ, R, S>(rt, alloc, limits, office, shelf, false),
         Trial::Late => comes_too_late::<TwoQ, R>(rt, alloc, limits, office),
         Trial::Skipped => is_skipped::<TwoQ, R>(rt, alloc, limits, office),
         Trial::SkippedBeside => is_skipped_beside(rt, office),
