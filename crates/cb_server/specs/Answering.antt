@@ -30,8 +30,8 @@ use Rattle.cb_server_state.specs.States as states
 use Rattle.cb_server_state.specs.States.{AreOf, IsAsLarge, Stays, server_of}
 use Rattle.cb_server.specs.ServerValue.{most_frames}
 use Rattle.cb_server.specs.declared.engine.Engine.{Engine}
-use Rattle.cb_server.specs.declared.engine.Met.{Met}
-use Rattle.cb_server.specs.declared.engine.Met.TheVariants as met
+use Rattle.cb_server.specs.declared.engine.Headway.{Headway}
+use Rattle.cb_server.specs.declared.engine.Headway.TheVariants as headway
 use Rattle.cb_server.specs.declared.engine.answers.Begun.{Begun}
 use Rattle.cb_server.specs.declared.engine.answers.Begun.TheVariants as begun
 
@@ -222,9 +222,9 @@ pub record IsPutOff (old : Engine) (client incarnation : ℕ) (message : protoco
 
 -- the message was taken by these steps; or it is a commit that is still to be applied
 abbrev pub Meets : Engine → (Server → List ServerStep) → (client incarnation : ℕ) → protocol.Body
-    → Met → Engine → Type 0
-Meets old steps client incarnation message met.Taken new = Serves old steps new
-Meets old steps client incarnation message (met.Applies standing) new =
+    → Headway → Engine → Type 0
+Meets old steps client incarnation message headway.Taken new = Serves old steps new
+Meets old steps client incarnation message (headway.Applies standing) new =
     IsPutOff old client incarnation message standing new
 
 -- How a message's transaction stands once it has begun.

@@ -32,9 +32,9 @@ use cb_outbox::Outbox;
 use cb_page::{ClientNo, Incarnation, Limits};
 use std::alloc::{AllocError, Global};
 
-/// What became of a message.
+/// How far a message has come.
 #[derive(Clone, Copy)]
-pub(crate) enum Met {
+pub(crate) enum Headway {
     /// It was taken.
     Taken,
     /// It is a commit that is to be applied, whose transaction stands so. There is room for what
@@ -76,10 +76,10 @@ impl Engine {
             ≡ true) }
         ensures left { OnErr result (IsLeft self.old self.new) }
     {
-        let met = self.meet(alloc, limits, client, incarnation, body)?;
-        match met {
-            Met::Taken => Ok(()),
-            Met::Applies(standing) => {
+        let headway = self.meet(alloc, limits, client, incarnation, body)?;
+        match headway {
+            Headway::Taken => Ok(()),
+            Headway::Applies(standing) => {
                 Ok(self.apply_copy(alloc, client, incarnation, standing, body)?)
             }
         }
@@ -113,8 +113,8 @@ impl Engine {
     {
         match self.meet(alloc, limits, client, incarnation, &body) {
             Err(fault) => Err((fault, body)),
-            Ok(Met::Taken) => Ok(()),
-            Ok(Met::Applies(standing)) => self.apply_body(client, incarnation, standing, body),
+            Ok(Headway::Taken) => Ok(()),
+            Ok(Headway::Applies(standing)) => self.apply_body(client, incarnation, standing, body),
         }
     }
 
@@ -126,14 +126,14 @@ impl Engine {
         client: ClientNo,
         incarnation: Incarnation,
         body: &Body,
-    ) -> Result<Met, ServerFault>
+    ) -> Result<Headway, ServerFault>
         requires ready { IsReady self.old }
         requires of { HasLimits self.old limits.now }
         requires client { HasClient self.old client }
         requires fits { FitsIn self.old body.now }
-        ensures ok { IfOk result (λ met. Meets self.old (λ server.
+        ensures ok { IfOk result (λ headway. Meets self.old (λ server.
             server_take on_cycle server client incarnation (body_of body.now))
-            client incarnation (body_of body.now) met self.new) }
+            client incarnation (body_of body.now) headway self.new) }
         ensures taken { OnOk result
             (is_exhausted (server_in self.old) client incarnation (body_of body.now) ≡ false) }
         ensures err { IfErr result (λ fault.
@@ -146,10 +146,10 @@ impl Engine {
     {
         if is_hello(body) {
             self.hello(alloc, limits, client, incarnation)?;
-            return Ok(Met::Taken);
+            return Ok(Headway::Taken);
         }
         if !self.is_current(client, incarnation) {
-            return Ok(Met::Taken);
+            return Ok(Headway::Taken);
         }
         self.meet_current(alloc, limits, client, incarnation, body)
     }
@@ -163,15 +163,15 @@ impl Engine {
         client: ClientNo,
         incarnation: Incarnation,
         body: &Body,
-    ) -> Result<Met, ServerFault>
+    ) -> Result<Headway, ServerFault>
         requires ready { IsReady self.old }
         requires of { HasLimits self.old limits.now }
         requires client { HasClient self.old client }
         requires current { IsCurrent self.old client incarnation }
         requires fits { FitsIn self.old body.now }
-        ensures ok { IfOk result (λ met. Meets self.old
+        ensures ok { IfOk result (λ headway. Meets self.old
             (λ server. take_current on_cycle server client (body_of body.now))
-            client incarnation (body_of body.now) met self.new) }
+            client incarnation (body_of body.now) headway self.new) }
         ensures taken { OnOk result (LacksNumber self.old client (body_of body.now) false) }
         ensures err { IfErr result (λ fault.
             LacksNumber self.old client (body_of body.now) (is_exhaustion fault)) }
@@ -183,10 +183,10 @@ impl Engine {
             Body::Commit { txn, writes } => {
                 self.meet_commit(alloc, limits, client, incarnation, *txn, writes)
             }
-            Body::Granted { .. } => Ok(Met::Taken),
+            Body::Granted { .. } => Ok(Headway::Taken),
             Body::Short(body) => {
                 self.serve(alloc, limits, client, incarnation, body)?;
-                Ok(Met::Taken)
+                Ok(Headway::Taken)
             }
         }
     }
