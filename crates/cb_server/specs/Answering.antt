@@ -25,7 +25,6 @@ use Rattle.cb_protocol.specs.ServerMessages.{read_asks_below}
 use Rattle.cb_protocol.specs.Settling.{send_to, settle_pages}
 use Rattle.cb_protocol.specs.WaitsFor.{on_cycle}
 use Rattle.cb_protocol.specs.World.{messages_sent}
-use Rattle.cb_server_state.specs.Questions.{IsLastIfLive, standing_in}
 use Rattle.cb_server_state.specs.States as states
 use Rattle.cb_server_state.specs.States.{AreOf, IsAsLarge, Stays, server_of}
 use Rattle.cb_server.specs.ServerValue.{most_frames}
@@ -192,10 +191,10 @@ abbrev pub IsCurrent : Engine → (client incarnation : ℕ) → Type 0
 IsCurrent engine client incarnation =
     incarnation ≡ ((server_in engine).session client).current
 
--- So the transaction stands beside the client's last one, as it was asked before it begins.
-pub record IsStanding (engine : Engine) (client txn : ℕ) (standing : Standing) : Type 0 where
-  pub is : standing ≡ standing_in (server_in engine) client txn
-  pub last : IsLastIfLive standing (server_in engine) client txn
+-- so the transaction stands beside the client's last one, as it was asked before it begins
+abbrev pub IsStanding : Engine → (client txn : ℕ) → Standing → Type 0
+IsStanding engine client txn standing =
+    numbers.IsStanding (server_in engine) client txn standing
 
 -- A commit of the client's current incarnation is to be applied, whose transaction stands so: there
 -- is a number for it, and room for its answer and for settling.
@@ -265,6 +264,11 @@ abbrev pub FitsIn : Engine → Body → Type 0
 FitsIn engine (body.Short short) = BodyFits (limits_in engine) (short_of short)
 FitsIn engine (body.Commit txn writes) = FitsStore engine writes
 FitsIn engine (body.Granted page grant version bytes) = ⊤
+
+-- the message asks to read
+abbrev pub is_ask_read : protocol.Body → Bool
+is_ask_read (protocol.AskRead txn page) = true
+is_ask_read _ = false
 
 -- the message is a Hello
 abbrev pub is_hello : protocol.Body → Bool
