@@ -18,7 +18,7 @@ abbrev later : Server → (c t : ℕ) → Server
 later s c t = server_after s (ForgetTransaction c ∷ ChangeSession c (BeginTransaction t) ∷ [])
 
 -- whatever begins, the client's rows stay
-rows_stay : (s : Server) (c t p : ℕ) → ((server_after s (begin_transaction s c t)).session c).row p ≡ ((s.session c).row) p
+pub rows_stay : (s : Server) (c t p : ℕ) → ((server_after s (begin_transaction s c t)).session c).row p ≡ ((s.session c).row) p
 rows_stay s c t p = go (nat_lt (s.session c).txn t)
   where
     go : (r : Bool) → ((server_after s (if r then ForgetTransaction c ∷ ChangeSession c (BeginTransaction t) ∷ [] else [])).session c).row p ≡ (s.session c).row p
@@ -76,7 +76,7 @@ not_doomed e = absurd cc
 not_ended : standing.Ended ≢ standing.Later
 not_ended e = absurd cc
 
-pub lacks_as_live : (s : Server) (c t p grants : ℕ) → standing.Live ≡ standing_in s c t → IsLast s c t → is_none ((s.session c).row p) ≡ true
+lacks_as_live : (s : Server) (c t p grants : ℕ) → standing.Live ≡ standing_in s c t → IsLast s c t → is_none ((s.session c).row p) ≡ true
     → grants ≡ read_asks_below s s.pages
     → LacksNumber s c (AskRead t p) (not (has_waiting_ask s c s.pages) && nat_lt max_number (s.next_grant + grants))
 lacks_as_live s c t p grants is last row g =
@@ -85,6 +85,16 @@ lacks_as_live s c t p grants is last row g =
   where
     lives : IsLiveOne s c t false
     lives = live_stands s c t is last
+
+pub lacks_as_idle : (s : Server) (c t p grants : ℕ) → standing.Live ≡ standing_in s c t → IsLast s c t → is_none ((s.session c).row p) ≡ true
+    → grants ≡ read_asks_below s s.pages → has_waiting_ask s c s.pages ≡ false → LacksNumber s c (AskRead t p) (nat_lt max_number (s.next_grant + grants))
+lacks_as_idle s c t p grants is last row g idle =
+    lacks_as_live s c t p grants is last row g ∙ ap (λ (b : Bool). not b && nat_lt max_number (s.next_grant + grants)) idle
+
+pub lacks_none_waiting : (s : Server) (c t p : ℕ) → standing.Live ≡ standing_in s c t → IsLast s c t → is_none ((s.session c).row p) ≡ true
+    → has_waiting_ask s c s.pages ≡ true → LacksNumber s c (AskRead t p) false
+lacks_none_waiting s c t p is last row waits =
+    lacks_as_live s c t p (read_asks_below s s.pages) is last row refl ∙ ap (λ (b : Bool). not b && nat_lt max_number (s.next_grant + read_asks_below s s.pages)) waits
 
 pub lacks_none_doomed : (s : Server) (c t p : ℕ) → standing.Doomed ≡ standing_in s c t → IsLast s c t → LacksNumber s c (AskRead t p) false
 lacks_none_doomed s c t p is last =
@@ -99,10 +109,11 @@ lacks_none_ended s c t p is =
     ap (λ (l : List ServerStep). lacks_number (server_after s l) c (AskRead t p)) (not_later_begins s c t standing.Ended not_ended is)
     ∙ rw (ended_stands s c t is) refl
 
--- no copy was read
-pub none_read : (row kept : Option ℕ) (test : Bool) → test ≡ is_some row → test ≡ false → row ≡ kept → is_none kept ≡ true
-none_read row kept test is none same = ap is_none (sym same) ∙ of row (sym is ∙ none)
-  where
-    of : (read : Option ℕ) → is_some read ≡ false → is_none read ≡ true
-    of None e = refl
-    of (Some number) e = sym e
+-- the client was found to have no row, or one
+pub none_found : (row : Option ℕ) (has_row : Bool) → has_row ≡ false → has_row ≡ is_some row → is_none row ≡ true
+none_found None has_row none is = refl
+none_found (Some number) has_row none is = sym none ∙ is
+
+pub some_found : (row : Option ℕ) (has_row : Bool) → has_row ≡ true → has_row ≡ is_some row → is_none row ≡ false
+some_found None has_row some is = sym some ∙ is
+some_found (Some number) has_row some is = refl

@@ -1,5 +1,6 @@
 -- What a transaction that begins leaves of the engine.
-use Rattle.std.proofs.Common.{◌≡◌, ℕ, ◌<◌, nat_lt, Bool, true, false, if◌then◌else◌, [], length, refl, sym, ap, ◌∙◌, subst, arith}
+use Rattle.std.proofs.Common.{◌≡◌, ℕ, ◌<◌, nat_lt, Bool, true, false, if◌then◌else◌, [], Option, length, refl, sym, ap, ◌∙◌, subst, arith}
+use Rattle.cb_callbacks.proofs.Lacking.{rows_stay}
 use Rattle.cb_callbacks.proofs.Standing.{begins_later, begun_session}
 use Rattle.cb_links.specs.declared.sessions.Standing.{Standing}
 use Rattle.cb_outbox.specs.Saying.{OutboxState}
@@ -66,3 +67,14 @@ current_begun old new c t i b is = is ∙ sym (ap (λ (s : Server). (s.session c
 
 pub current_reserved : (old res : Engine) (c i : ℕ) → server_in res ≡ server_in old → IsCurrent old c i → IsCurrent res c i
 current_reserved old res c i e is = is ∙ sym (ap (λ (s : Server). (s.session c).current) e)
+
+-- so the client's row is in an engine that has this state
+pub row_in : (e : Engine) (v : ServerState) (c p : ℕ) (row : Option ℕ) → v ≡ e.callbacks.state → row ≡ ((server_of v).session c).row p → row ≡ ((server_in e).session c).row p
+row_in e v c p row same is = is ∙ ap (λ (k : ServerState). ((server_of k).session c).row p) same
+
+-- the client's row of a page stays, where nothing but room has changed and once a transaction has begun
+pub row_left : (old res : Engine) (c p : ℕ) (row : Option ℕ) → server_in res ≡ server_in old → row ≡ ((server_in old).session c).row p → row ≡ ((server_in res).session c).row p
+row_left old res c p row e is = is ∙ sym (ap (λ (s : Server). (s.session c).row p) e)
+
+pub row_begun : (old new : Engine) (c t p : ℕ) (row : Option ℕ) → Begins old c t new → row ≡ ((server_in old).session c).row p → row ≡ ((server_in new).session c).row p
+row_begun old new c t p row b is = is ∙ sym (ap (λ (s : Server). (s.session c).row p) b.makes.says.becomes ∙ rows_stay (server_in old) c t p)

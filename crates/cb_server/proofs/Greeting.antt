@@ -5,13 +5,16 @@ use Rattle.cb_asks.specs.Asks.{asks_below}
 use Rattle.cb_server_state.specs.Questions.{admission_in}
 use Rattle.cb_links.specs.declared.sessions.Admission.{Admission}
 use Rattle.cb_links.specs.declared.sessions.Admission.TheVariants as admission
+use Rattle.cb_frame.specs.declared.frame.ShortBody.{ShortBody}
+use Rattle.cb_frame.specs.declared.frame.ShortBody.TheVariants as short
+use Rattle.cb_outbox.specs.Messages.{short_of}
 use Rattle.cb_protocol.proofs.Cases.{serves_current, serves_hello_again, serves_new_hello, serves_no_old_hello, serves_no_other_incarnation}
 use Rattle.cb_protocol.specs.Messages.{AskRead, AskWrite, Body, Commit, Downgraded, Drop, GiveBack, Hello, InUse, Welcome, to_server}
 use Rattle.cb_protocol.specs.Server.{Send, Server}
 use Rattle.cb_protocol.specs.ServerMessages.{admit_incarnation, begin_transaction, direct_answer, lacks_number, named_txn, server_take, take_current}
 use Rattle.cb_protocol.specs.Settling.{settle_pages}
 use Rattle.cb_protocol.specs.WaitsFor.{on_cycle}
-use Rattle.cb_server.specs.Answering.{copies_for_body, is_hello, messages_for_body}
+use Rattle.cb_server.specs.Answering.{copies_for_body, is_ask_read, is_hello, messages_for_body}
 use Rattle.cb_server.specs.Taking.{may_be_answered, may_want_memory, may_want_room}
 use Rattle.cb_server.proofs.Making.{begins_none}
 
@@ -95,11 +98,14 @@ ignored s c b way settled = rw (begins b way, answers b way, settled) refl
     answers (Downgraded p g t) e = absurd cc
     answers _ e = refl
 
--- a number is lacking only for what may be answered
-pub lacks_answered : (s : Server) (c : ℕ) (b : Body) → lacks_number s c b ≡ true → may_be_answered b ≡ true
-lacks_answered s c (AskRead t p) e = refl
-lacks_answered s c (Commit t ws) e = refl
-lacks_answered s c _ e = absurd cc
+-- another message than AskRead wants no copy, nor a number if it is no commit
+pub no_copies : (b : Body) → is_ask_read b ≡ false → 0 ≡ copies_for_body b
+no_copies (AskRead t p) e = absurd cc
+no_copies _ e = refl
+
+pub lacks_none_other : (b : ShortBody) (s : Server) (c : ℕ) → is_ask_read (short_of b) ≡ false → lacks_number s c (short_of b) ≡ false
+lacks_none_other (short.AskRead t p) s c e = absurd cc
+lacks_none_other _ s c e = refl
 
 -- what may be answered may want memory
 pub answered_may_want : (s : Server) (b : Body) → may_be_answered b ≡ true → may_want_room s b ≡ true

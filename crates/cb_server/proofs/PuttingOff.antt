@@ -9,8 +9,8 @@ use Rattle.cb_protocol.specs.WaitsFor.{on_cycle}
 use Rattle.cb_server.specs.Answering.{CanAnswer, IsCurrent, IsLeft, IsPutOff, IsStanding, LacksNumber, Makes, Meets, Serves, applies, server_in}
 use Rattle.cb_server.specs.Taking.{may_want_memory}
 use Rattle.cb_server.specs.declared.engine.Engine.{Engine}
-use Rattle.cb_server.specs.declared.engine.Met.{Met}
-use Rattle.cb_server.specs.declared.engine.Met.TheVariants as met
+use Rattle.cb_server.specs.declared.engine.Headway.{Headway}
+use Rattle.cb_server.specs.declared.engine.Headway.TheVariants as headway
 use Rattle.cb_server.proofs.Beginning.{stands_left}
 use Rattle.cb_server.proofs.Greeting.{current_may_want, current_taken}
 use Rattle.cb_server.proofs.Making.{serves, serves_as}
@@ -32,10 +32,10 @@ puts_off old mid c i t x ws left same current room stands number allowed = recor
 }
 
 -- by another form of the steps
-pub meets_as : {F : Type 0} (r : Result Met F) (old new : Engine) (f g : Server → List ServerStep) (c i : ℕ) (b : Body) → f (server_in old) ≡ g (server_in old)
+pub meets_as : {F : Type 0} (r : Result Headway F) (old new : Engine) (f g : Server → List ServerStep) (c i : ℕ) (b : Body) → f (server_in old) ≡ g (server_in old)
     → IfOk r (λ m. Meets old g c i b m new) → IfOk r (λ m. Meets old f c i b m new)
-meets_as (Ok met.Taken) old new f g c i b e serves = serves_as old new f g e serves
-meets_as (Ok (met.Applies x)) old new f g c i b e put = put
+meets_as (Ok headway.Taken) old new f g c i b e serves = serves_as old new f g e serves
+meets_as (Ok (headway.Applies x)) old new f g c i b e put = put
 meets_as (Err x) old new f g c i b e holds = tt
 
 -- of the incarnation that was current

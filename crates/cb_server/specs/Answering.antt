@@ -25,13 +25,12 @@ use Rattle.cb_protocol.specs.ServerMessages.{read_asks_below}
 use Rattle.cb_protocol.specs.Settling.{send_to, settle_pages}
 use Rattle.cb_protocol.specs.WaitsFor.{on_cycle}
 use Rattle.cb_protocol.specs.World.{messages_sent}
-use Rattle.cb_server_state.specs.Questions.{IsLastIfLive, standing_in}
 use Rattle.cb_server_state.specs.States as states
 use Rattle.cb_server_state.specs.States.{AreOf, IsAsLarge, Stays, server_of}
 use Rattle.cb_server.specs.ServerValue.{most_frames}
 use Rattle.cb_server.specs.declared.engine.Engine.{Engine}
-use Rattle.cb_server.specs.declared.engine.Met.{Met}
-use Rattle.cb_server.specs.declared.engine.Met.TheVariants as met
+use Rattle.cb_server.specs.declared.engine.Headway.{Headway}
+use Rattle.cb_server.specs.declared.engine.Headway.TheVariants as headway
 use Rattle.cb_server.specs.declared.engine.answers.Begun.{Begun}
 use Rattle.cb_server.specs.declared.engine.answers.Begun.TheVariants as begun
 
@@ -192,10 +191,10 @@ abbrev pub IsCurrent : Engine → (client incarnation : ℕ) → Type 0
 IsCurrent engine client incarnation =
     incarnation ≡ ((server_in engine).session client).current
 
--- So the transaction stands beside the client's last one, as it was asked before it begins.
-pub record IsStanding (engine : Engine) (client txn : ℕ) (standing : Standing) : Type 0 where
-  pub is : standing ≡ standing_in (server_in engine) client txn
-  pub last : IsLastIfLive standing (server_in engine) client txn
+-- so the transaction stands beside the client's last one, as it was asked before it begins
+abbrev pub IsStanding : Engine → (client txn : ℕ) → Standing → Type 0
+IsStanding engine client txn standing =
+    numbers.IsStanding (server_in engine) client txn standing
 
 -- A commit of the client's current incarnation is to be applied, whose transaction stands so: there
 -- is a number for it, and room for its answer and for settling.
@@ -222,9 +221,9 @@ pub record IsPutOff (old : Engine) (client incarnation : ℕ) (message : protoco
 
 -- the message was taken by these steps; or it is a commit that is still to be applied
 abbrev pub Meets : Engine → (Server → List ServerStep) → (client incarnation : ℕ) → protocol.Body
-    → Met → Engine → Type 0
-Meets old steps client incarnation message met.Taken new = Serves old steps new
-Meets old steps client incarnation message (met.Applies standing) new =
+    → Headway → Engine → Type 0
+Meets old steps client incarnation message headway.Taken new = Serves old steps new
+Meets old steps client incarnation message (headway.Applies standing) new =
     IsPutOff old client incarnation message standing new
 
 -- How a message's transaction stands once it has begun.
@@ -265,6 +264,11 @@ abbrev pub FitsIn : Engine → Body → Type 0
 FitsIn engine (body.Short short) = BodyFits (limits_in engine) (short_of short)
 FitsIn engine (body.Commit txn writes) = FitsStore engine writes
 FitsIn engine (body.Granted page grant version bytes) = ⊤
+
+-- the message asks to read
+abbrev pub is_ask_read : protocol.Body → Bool
+is_ask_read (protocol.AskRead txn page) = true
+is_ask_read _ = false
 
 -- the message is a Hello
 abbrev pub is_hello : protocol.Body → Bool

@@ -2,7 +2,7 @@
 ghost use Rattle.std.specs.Prelude.{◌≡◌, ◌≢◌, ◌==◌, ◌<◌, ◌≤◌, ◌∷◌, [], false, true, IfErr, IfOk};
 ghost use Rattle.std.specs.Prelude.{◌+◌, OnErr, OnOk, length, max};
 ghost use Rattle.cb_outbox.specs.Messages.{body_of, short_of};
-ghost use Rattle.cb_protocol.specs.Messages.{Hello, Welcome, to_server};
+ghost use Rattle.cb_protocol.specs.Messages.{AskRead, Hello, Welcome, to_server};
 ghost use Rattle.cb_protocol.specs.Ranges.{BodyFits};
 ghost use Rattle.cb_protocol.specs.Resend.{server_again};
 ghost use Rattle.cb_protocol.specs.Server.{Send};
@@ -11,10 +11,10 @@ ghost use Rattle.cb_protocol.specs.ServerMessages.{server_take, take_current};
 ghost use Rattle.cb_protocol.specs.Settling.{settle_pages};
 ghost use Rattle.cb_protocol.specs.WaitsFor.{on_cycle};
 ghost use Rattle.cb_protocol.specs.World.{messages_sent};
-ghost use Rattle.cb_server.specs.Answering.{CanSettle, FitsIn, HasClient, HasLimits, HasRoom};
-ghost use Rattle.cb_server.specs.Answering.{IsCurrent, IsLeft, IsReady, LacksNumber, Makes, Meets};
-ghost use Rattle.cb_server.specs.Answering.{Serves, asks_in_all, copies_for_body, is_hello};
-ghost use Rattle.cb_server.specs.Answering.{limits_in};
+ghost use Rattle.cb_server.specs.Answering.{CanSettle, FitsIn, HasClient, HasLimits, HasPage};
+ghost use Rattle.cb_server.specs.Answering.{HasRoom, IsCurrent, IsLeft, IsReady, LacksNumber};
+ghost use Rattle.cb_server.specs.Answering.{Makes, Meets, Serves, asks_in_all, is_ask_read};
+ghost use Rattle.cb_server.specs.Answering.{is_hello, limits_in};
 ghost use Rattle.cb_server.specs.Answering.{messages_for_body, messages_in_all};
 ghost use Rattle.cb_server.specs.Answering.{read_asks_in_all, server_in};
 ghost use Rattle.cb_server.specs.Taking.{is_exhaustion, may_want_memory, may_want_room};
@@ -29,12 +29,12 @@ use cb_callbacks::Callbacks;
 use cb_frame::{Body, ShortBody};
 use cb_links::{Admission, Standing};
 use cb_outbox::Outbox;
-use cb_page::{ClientNo, Incarnation, Limits};
+use cb_page::{ClientNo, Incarnation, Limits, PageNo, TxnNo};
 use std::alloc::{AllocError, Global};
 
-/// What became of a message.
+/// How far a message has come.
 #[derive(Clone, Copy)]
-pub(crate) enum Met {
+pub(crate) enum Headway {
     /// It was taken.
     Taken,
     /// It is a commit that is to be applied, whose transaction stands so. There is room for what
@@ -76,10 +76,10 @@ impl Engine {
             ≡ true) }
         ensures left { OnErr result (IsLeft self.old self.new) }
     {
-        let met = self.meet(alloc, limits, client, incarnation, body)?;
-        match met {
-            Met::Taken => Ok(()),
-            Met::Applies(standing) => {
+        let headway = self.meet(alloc, limits, client, incarnation, body)?;
+        match headway {
+            Headway::Taken => Ok(()),
+            Headway::Applies(standing) => {
                 Ok(self.apply_copy(alloc, client, incarnation, standing, body)?)
             }
         }
@@ -113,8 +113,8 @@ impl Engine {
     {
         match self.meet(alloc, limits, client, incarnation, &body) {
             Err(fault) => Err((fault, body)),
-            Ok(Met::Taken) => Ok(()),
-            Ok(Met::Applies(standing)) => self.apply_body(client, incarnation, standing, body),
+            Ok(Headway::Taken) => Ok(()),
+            Ok(Headway::Applies(standing)) => self.apply_body(client, incarnation, standing, body),
         }
     }
 
@@ -126,14 +126,14 @@ impl Engine {
         client: ClientNo,
         incarnation: Incarnation,
         body: &Body,
-    ) -> Result<Met, ServerFault>
+    ) -> Result<Headway, ServerFault>
         requires ready { IsReady self.old }
         requires of { HasLimits self.old limits.now }
         requires client { HasClient self.old client }
         requires fits { FitsIn self.old body.now }
-        ensures ok { IfOk result (λ met. Meets self.old (λ server.
+        ensures ok { IfOk result (λ headway. Meets self.old (λ server.
             server_take on_cycle server client incarnation (body_of body.now))
-            client incarnation (body_of body.now) met self.new) }
+            client incarnation (body_of body.now) headway self.new) }
         ensures taken { OnOk result
             (is_exhausted (server_in self.old) client incarnation (body_of body.now) ≡ false) }
         ensures err { IfErr result (λ fault.
@@ -146,10 +146,10 @@ impl Engine {
     {
         if is_hello(body) {
             self.hello(alloc, limits, client, incarnation)?;
-            return Ok(Met::Taken);
+            return Ok(Headway::Taken);
         }
         if !self.is_current(client, incarnation) {
-            return Ok(Met::Taken);
+            return Ok(Headway::Taken);
         }
         self.meet_current(alloc, limits, client, incarnation, body)
     }
@@ -163,15 +163,15 @@ impl Engine {
         client: ClientNo,
         incarnation: Incarnation,
         body: &Body,
-    ) -> Result<Met, ServerFault>
+    ) -> Result<Headway, ServerFault>
         requires ready { IsReady self.old }
         requires of { HasLimits self.old limits.now }
         requires client { HasClient self.old client }
         requires current { IsCurrent self.old client incarnation }
         requires fits { FitsIn self.old body.now }
-        ensures ok { IfOk result (λ met. Meets self.old
+        ensures ok { IfOk result (λ headway. Meets self.old
             (λ server. take_current on_cycle server client (body_of body.now))
-            client incarnation (body_of body.now) met self.new) }
+            client incarnation (body_of body.now) headway self.new) }
         ensures taken { OnOk result (LacksNumber self.old client (body_of body.now) false) }
         ensures err { IfErr result (λ fault.
             LacksNumber self.old client (body_of body.now) (is_exhaustion fault)) }
@@ -183,10 +183,10 @@ impl Engine {
             Body::Commit { txn, writes } => {
                 self.meet_commit(alloc, limits, client, incarnation, *txn, writes)
             }
-            Body::Granted { .. } => Ok(Met::Taken),
+            Body::Granted { .. } => Ok(Headway::Taken),
             Body::Short(body) => {
                 self.serve(alloc, limits, client, incarnation, body)?;
-                Ok(Met::Taken)
+                Ok(Headway::Taken)
             }
         }
     }
@@ -214,18 +214,39 @@ impl Engine {
             (may_want_room (server_in self.old) (short_of body.now) ≡ true) }
         ensures left { OnErr result (IsLeft self.old self.new) }
     {
-        if self.lacks_grant(client, body) {
-            return Err(ServerFault::Exhausted);
+        match body {
+            ShortBody::AskRead { txn, page } => {
+                self.take_read(alloc, limits, client, incarnation, *txn, *page)
+            }
+            _ => Ok(self.serve_other(alloc, limits, client, incarnation, body)?),
         }
+    }
+
+    /// The same of another message than AskRead, which wants no number.
+    fn serve_other(
+        &mut self,
+        alloc: Global,
+        limits: &Limits,
+        client: ClientNo,
+        incarnation: Incarnation,
+        body: &ShortBody,
+    ) -> Result<(), AllocError>
+        requires ready { IsReady self.old }
+        requires of { HasLimits self.old limits.now }
+        requires client { HasClient self.old client }
+        requires current { IsCurrent self.old client incarnation }
+        requires fits { BodyFits (limits_in self.old) (short_of body.now) }
+        requires other { is_ask_read (short_of body.now) ≡ false }
+        ensures ok { OnOk result (Serves self.old
+            (λ server. take_current on_cycle server client (short_of body.now)) self.new) }
+        ensures needed { OnErr result
+            (may_want_room (server_in self.old) (short_of body.now) ≡ true) }
+        ensures left { OnErr result (IsLeft self.old self.new) }
+    {
         if !is_for_server(body) {
             return Ok(());
         }
-        self.reserve(
-            alloc,
-            limits,
-            messages_for_body(limits, body),
-            copies_for_body(body),
-        )?;
+        self.reserve(alloc, limits, messages_for_body(limits, body), 0)?;
         self.answer(client, incarnation, *body)?;
         self.settle();
         Ok(())
@@ -275,9 +296,21 @@ impl Engine {
         ensures { LacksNumber self.now client (short_of body.now) result }
     {
         match body {
-            ShortBody::AskRead { txn, page } => self.callbacks.lacks_grant(client, *txn, *page),
+            ShortBody::AskRead { txn, page } => self.lacks_read(client, *txn, *page),
             _ => false,
         }
+    }
+
+    /// Whether no grant number would be left for an AskRead.
+    fn lacks_read(&self, client: ClientNo, txn: TxnNo, page: PageNo) -> bool
+        requires client { HasClient self.now client }
+        requires page { HasPage self.now page }
+        ensures { LacksNumber self.now client (AskRead txn page) result }
+    {
+        let state = self.callbacks.state();
+        let standing = state.standing(client, txn);
+        let has_row = state.directory.row(client, page).is_some();
+        self.callbacks.lacks_grant(client, standing, has_row)
     }
 
     /// Takes a Hello: of a greater incarnation, which becomes current, or of the current one again.
@@ -428,27 +461,16 @@ fn is_for_server(body: &ShortBody) -> bool
     }
 }
 
-/// How many messages a body can need beside those for the asks that wait: its answer, or what
-/// settling may send for its ask.
+/// How many messages another body than an AskRead can need beside those for the asks that wait: its
+/// answer, or what settling may send for its ask.
 fn messages_for_body(limits: &Limits, body: &ShortBody) -> usize
+    requires { is_ask_read (short_of body.now) ≡ false }
     ensures messages { result ≡ messages_for_body limits.now.clients (short_of body.now) }
     ensures few { result ≤ 33 }
 {
     match body {
-        ShortBody::AskRead { .. } => 2,
         ShortBody::AskWrite { .. } => usize::from(limits.clients()) + 1,
         ShortBody::Hello => 1,
-        _ => 0,
-    }
-}
-
-/// How many copies of pages a body can need beside those for the asks to read that wait.
-fn copies_for_body(body: &ShortBody) -> usize
-    ensures copies { result ≡ copies_for_body (short_of body.now) }
-    ensures few { result ≤ 1 }
-{
-    match body {
-        ShortBody::AskRead { .. } => 1,
         _ => 0,
     }
 }

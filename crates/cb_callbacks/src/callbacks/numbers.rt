@@ -1,6 +1,7 @@
 //! What is asked before a message's transaction begins.
-ghost use Rattle.std.specs.Prelude.{◌≡◌, ◌+◌, ◌==◌, ◌&&◌, nat_lt};
-ghost use Rattle.cb_callbacks.specs.Numbers.{LacksNumber};
+ghost use Rattle.std.specs.Prelude.{◌≡◌, ◌+◌, ◌==◌, ◌&&◌, ℕ, nat_lt};
+ghost use Rattle.std.specs.Option.{is_some};
+ghost use Rattle.cb_callbacks.specs.Numbers.{IsStanding, LacksNumber};
 ghost use Rattle.cb_protocol.specs.Basics.{max_number};
 ghost use Rattle.cb_protocol.specs.Messages.{AskRead};
 ghost use Rattle.cb_protocol.specs.Server.{has_row, is_write_holder};
@@ -12,16 +13,18 @@ use cb_page::{ClientNo, GrantNo, MAX_NUMBER, PageNo, TxnNo};
 
 impl Callbacks {
     /// Whether an ask to read would enter a queue, although no grant number is left for it beyond
-    /// those for the asks that wait.
-    pub fn lacks_grant(&self, client: ClientNo, txn: TxnNo, page: PageNo) -> bool
+    /// those for the asks that wait. Its transaction stands so, and the client has a row of its page
+    /// or none.
+    pub fn lacks_grant(&self, client: ClientNo, standing: Standing, has_row: bool) -> bool
         requires client { HasClient self.now.state client }
-        requires page { HasPage self.now.state page }
-        ensures { LacksNumber (server_of self.now.state) client (AskRead txn page) result }
+        ensures { (txn page : ℕ) → IsStanding (server_of self.now.state) client txn standing
+            → has_row ≡ is_some (((server_of self.now.state).session client).row page)
+            → LacksNumber (server_of self.now.state) client (AskRead txn page) result }
     {
-        if self.state.directory.row(client, page).is_some() {
+        if has_row {
             return false;
         }
-        match self.state.standing(client, txn) {
+        match standing {
             Standing::Later => self.lacks_grant_after(self.read_asks_of_others(client)),
             Standing::Live => !self.waits(client) && self.lacks_grant_after(self.read_asks()),
             Standing::Doomed => false,

@@ -1,5 +1,5 @@
 //! The direct answers to messages, once their transactions have begun.
-ghost use Rattle.std.specs.Prelude.{◌≡◌, ℕ, OnErr, OnOk, true};
+ghost use Rattle.std.specs.Prelude.{◌≡◌, ℕ, OnErr, OnOk, false, true};
 ghost use Rattle.cb_outbox.specs.Messages.{short_of};
 ghost use Rattle.cb_protocol.specs.Messages.{Downgraded, Drop as DropBody, GiveBack, InUse};
 ghost use Rattle.cb_protocol.specs.Ranges.{BodyFits};
@@ -7,7 +7,7 @@ ghost use Rattle.cb_protocol.specs.Server.{Server, has_not_ended};
 ghost use Rattle.cb_protocol.specs.WaitsFor.{on_cycle};
 ghost use Rattle.cb_server.specs.Answering.{Begins, CanSay, CanSayTo, HasBegunTold, HasClient};
 ghost use Rattle.cb_server.specs.Answering.{HasPage, IsCurrent, IsLeft, IsStanding, Makes, Stands};
-ghost use Rattle.cb_server.specs.Answering.{answer_to, limits_in, server_in};
+ghost use Rattle.cb_server.specs.Answering.{answer_to, is_ask_read, limits_in, server_in};
 ghost use Rattle.cb_server.specs.Taking.{may_be_answered};
 
 use crate::engine::Engine;
@@ -41,7 +41,8 @@ impl Begun {
 }
 
 impl Engine {
-    /// A message without page bytes is answered; its transaction begins where it is a later one.
+    /// Another message without page bytes than AskRead is answered; its transaction begins where it
+    /// is a later one.
     ///
     /// `AllocError` only where memory was refused for an ask's place; then nothing has begun
     /// either.
@@ -54,6 +55,7 @@ impl Engine {
         requires client { HasClient self.old client }
         requires current { IsCurrent self.old client incarnation }
         requires fits { BodyFits (limits_in self.old) (short_of body) }
+        requires other { is_ask_read (short_of body) ≡ false }
         requires room { CanSayTo (short_of body) self.old }
         ensures ok { OnOk result (Makes self.old (answer_to on_cycle client (short_of body))
             self.new) }
@@ -61,7 +63,7 @@ impl Engine {
         ensures left { OnErr result (IsLeft self.old self.new) }
     {
         match body {
-            ShortBody::AskRead { txn, page } => self.ask_read(client, incarnation, txn, page),
+            ShortBody::AskRead { .. } => unreachable!(),
             ShortBody::AskWrite { txn, page, grant } => {
                 self.ask_write(client, incarnation, txn, page, grant)
             }

@@ -1,62 +1,113 @@
 //! Asks to read and to write.
-ghost use Rattle.std.specs.Prelude.{◌≡◌, ◌<◌, ◌∷◌, [], if◌then◌else◌, true, OnErr, OnOk};
+ghost use Rattle.std.specs.Prelude.{◌≡◌, ◌<◌, ◌∷◌, [], if◌then◌else◌, false, true, IfErr, OnErr};
+ghost use Rattle.std.specs.Prelude.{OnOk};
 ghost use Rattle.cb_protocol.specs.Messages.{AskRead, AskWrite};
 ghost use Rattle.cb_protocol.specs.Server.{is_write_holder};
 ghost use Rattle.cb_protocol.specs.ServerMessages.{enter_queue, has_waiting_ask, new_ask};
-ghost use Rattle.cb_protocol.specs.ServerMessages.{take_ask_read, take_ask_write};
+ghost use Rattle.cb_protocol.specs.ServerMessages.{take_ask_read, take_ask_write, take_current};
 ghost use Rattle.cb_protocol.specs.Session.{has_live_txn};
 ghost use Rattle.cb_protocol.specs.Settling.{give_permission, send_granted, sole_row};
 ghost use Rattle.cb_protocol.specs.WaitsFor.{on_cycle};
-ghost use Rattle.cb_server.specs.Answering.{CanGrant, CanSay, HasClient, HasPage, IsCurrent};
-ghost use Rattle.cb_server.specs.Answering.{IsLeft, Makes, answer_to, places_at, server_in};
+ghost use Rattle.cb_server.specs.Answering.{CanGrant, CanSay, HasClient, HasLimits, HasPage};
+ghost use Rattle.cb_server.specs.Answering.{IsCurrent, IsLeft, IsReady, IsStanding, LacksNumber};
+ghost use Rattle.cb_server.specs.Answering.{Makes, Serves, answer_to, places_at, server_in};
+ghost use Rattle.cb_server.specs.Taking.{is_exhaustion};
 
 use crate::engine::Engine;
 use crate::engine::answers::Begun;
+use crate::server_fault::ServerFault;
 use cb_callbacks::an_ask_sends_at_most_one;
-use cb_page::{ClientNo, GrantNo, Incarnation, PageNo, TxnNo};
-use std::alloc::AllocError;
+use cb_links::Standing;
+use cb_page::{ClientNo, GrantNo, Incarnation, Limits, PageNo, TxnNo};
+use std::alloc::{AllocError, Global};
 
 impl Engine {
-    /// AskRead.
-    pub(crate) fn ask_read(
+    /// Takes an AskRead of the current incarnation. How its transaction stands, and which row the
+    /// client has, is asked once, before anything changes.
+    pub(crate) fn take_read(
+        &mut self,
+        alloc: Global,
+        limits: &Limits,
+        client: ClientNo,
+        incarnation: Incarnation,
+        txn: TxnNo,
+        page: PageNo,
+    ) -> Result<(), ServerFault>
+        requires ready { IsReady self.old }
+        requires of { HasLimits self.old limits.now }
+        requires client { HasClient self.old client }
+        requires page { HasPage self.old page }
+        requires current { IsCurrent self.old client incarnation }
+        ensures ok { OnOk result (Serves self.old
+            (λ server. take_current on_cycle server client (AskRead txn page)) self.new) }
+        ensures taken { OnOk result (LacksNumber self.old client (AskRead txn page) false) }
+        ensures err { IfErr result (λ fault.
+            LacksNumber self.old client (AskRead txn page) (is_exhaustion fault)) }
+        ensures left { OnErr result (IsLeft self.old self.new) }
+    {
+        let state = self.callbacks.state();
+        let standing = state.standing(client, txn);
+        let row = state.directory.row(client, page);
+        if self.callbacks.lacks_grant(client, standing, row.is_some()) {
+            return Err(ServerFault::Exhausted);
+        }
+        // For a Downgrade or the copy, and for an AbortNow.
+        self.reserve(alloc, limits, 2, 1)?;
+        self.ask_read(client, incarnation, txn, page, standing, row)?;
+        self.settle();
+        Ok(())
+    }
+
+    /// AskRead, whose transaction stands so; the client has that row of the page.
+    fn ask_read(
         &mut self,
         client: ClientNo,
         incarnation: Incarnation,
         txn: TxnNo,
         page: PageNo,
+        standing: Standing,
+        row: Option<GrantNo>,
     ) -> Result<(), AllocError>
         requires client { HasClient self.old client }
         requires page { HasPage self.old page }
         requires current { IsCurrent self.old client incarnation }
+        requires stands { IsStanding self.old client txn standing }
+        requires row { row ≡ ((server_in self.old).session client).row page }
         requires room { CanGrant self.old }
         ensures ok { OnOk result (Makes self.old (answer_to on_cycle client (AskRead txn page))
             self.new) }
         ensures left { OnErr result (IsLeft self.old self.new) }
     {
         self.callbacks.reserve_ask(page)?;
-        let standing = self.callbacks.state().standing(client, txn);
         match self.begin_or_abort(client, incarnation, txn, standing) {
-            Begun::Live => self.ask_to_read(client, incarnation, page),
+            Begun::Live => self.ask_to_read(client, incarnation, page, row),
             Begun::Doomed => {}
             Begun::Ended => {}
         }
         Ok(())
     }
 
-    /// A live transaction asks to read: it gets its copy again where it has one, else its ask
-    /// waits.
-    fn ask_to_read(&mut self, client: ClientNo, incarnation: Incarnation, page: PageNo)
+    /// A live transaction asks to read: it gets its copy again where it has that row of the page,
+    /// else its ask waits.
+    fn ask_to_read(
+        &mut self,
+        client: ClientNo,
+        incarnation: Incarnation,
+        page: PageNo,
+        row: Option<GrantNo>,
+    )
         requires client { HasClient self.old client }
         requires page { HasPage self.old page }
         requires current { IsCurrent self.old client incarnation }
         requires live { has_live_txn ((server_in self.old).session client) ≡ true }
+        requires row { row ≡ ((server_in self.old).session client).row page }
         requires place { 0 < places_at self.old page }
         requires room { CanGrant self.old }
         ensures { Makes self.old
             (λ server. take_ask_read on_cycle server client page ((server.session client).row page))
             self.new }
     {
-        match self.callbacks.state().directory.row(client, page) {
+        match row {
             Some(grant) => self.grant_again(client, incarnation, page, grant),
             None => self.enter(client, incarnation, page, None),
         }

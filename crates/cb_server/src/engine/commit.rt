@@ -13,7 +13,7 @@ ghost use Rattle.cb_server.specs.Taking.{is_exhaustion};
 
 use crate::engine::answers::Begun;
 use crate::engine::copying::copy_of;
-use crate::engine::{Engine, Met};
+use crate::engine::{Engine, Headway};
 use crate::server_fault::ServerFault;
 use cb_frame::{Body, ShortBody, Writes};
 use cb_links::Standing;
@@ -30,15 +30,15 @@ impl Engine {
         incarnation: Incarnation,
         txn: TxnNo,
         writes: &Writes,
-    ) -> Result<Met, ServerFault>
+    ) -> Result<Headway, ServerFault>
         requires ready { IsReady self.old }
         requires of { HasLimits self.old limits.now }
         requires client { HasClient self.old client }
         requires current { IsCurrent self.old client incarnation }
         requires fits { FitsStore self.old writes.now }
-        ensures ok { IfOk result (λ met. Meets self.old
+        ensures ok { IfOk result (λ headway. Meets self.old
             (λ server. take_current on_cycle server client (Commit txn (page_writes writes.now)))
-            client incarnation (Commit txn (page_writes writes.now)) met self.new) }
+            client incarnation (Commit txn (page_writes writes.now)) headway self.new) }
         ensures taken { OnOk result
             (LacksNumber self.old client (Commit txn (page_writes writes.now)) false) }
         ensures err { IfErr result (λ fault. LacksNumber self.old client
@@ -52,11 +52,11 @@ impl Engine {
         }
         self.reserve(alloc, limits, 1, 0)?;
         if is_applied {
-            return Ok(Met::Applies(standing));
+            return Ok(Headway::Applies(standing));
         }
         self.pass_over(client, incarnation, txn, standing);
         self.settle();
-        Ok(Met::Taken)
+        Ok(Headway::Taken)
     }
 
     /// Whether a commit would be applied, and no commit number is left for it.

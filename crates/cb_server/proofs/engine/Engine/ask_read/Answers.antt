@@ -5,7 +5,7 @@ use Rattle.cb_protocol.specs.ServerMessages.{direct_answer, take_ask_read}
 use Rattle.cb_protocol.specs.Settling.{send_to}
 use Rattle.cb_protocol.specs.WaitsFor.{on_cycle}
 use Rattle.cb_server.specs.Answering.{server_in}
-use Rattle.cb_server.proofs.Beginning.{current_begun, current_reserved, stands_in}
+use Rattle.cb_server.proofs.Beginning.{current_begun, current_reserved, row_begun, row_left, stands_left}
 use Rattle.cb_server.proofs.DirectAnswers.{doomed_answer, ended_answer, live_answer}
 use Rattle.cb_server.proofs.Making.{answers_reserved, makes_as, makes_nothing, reserved}
 use Rattle.cb_server.proofs.engine.Engine.ask_read.Goals as goal
@@ -43,5 +43,10 @@ returns-in-Ended-clause-ok c =
 
 pub begin_or_abort-requires-clause-stands : goal.begin_or_abort-requires-clause-stands
 begin_or_abort-requires-clause-stands c =
-    stands_in (record { callbacks = c.reserve_ask.new.self; outbox = c.args.self.now.outbox }) c.state.result.now c.args.client c.args.txn c.standing-standing.result
-    c.state.ensures.value c.standing-standing.ensures.value c.standing-standing.ensures.last
+    stands_left c.args.self.now (record { callbacks = c.reserve_ask.new.self; outbox = c.args.self.now.outbox }) c.args.client c.args.txn c.args.standing
+    c.in_ok-reserve_ask.ensures.changes.becomes c.requires.stands
+
+pub ask_to_read-requires-clause-row : goal.ask_to_read-requires-clause-row
+ask_to_read-requires-clause-row c =
+    row_begun (record { callbacks = c.reserve_ask.new.self; outbox = c.args.self.now.outbox }) c.begin_or_abort.new.self c.args.client c.args.txn c.args.page c.args.row c.in-Live.ensures.begins
+    (row_left c.args.self.now (record { callbacks = c.reserve_ask.new.self; outbox = c.args.self.now.outbox }) c.args.client c.args.page c.args.row c.in_ok-reserve_ask.ensures.changes.becomes c.requires.row)
