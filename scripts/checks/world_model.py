@@ -66,7 +66,7 @@ class Pool:
         from_new = new and (len(self.a1in) > self.limits.kin or not old)
         return (self.a1in, new[0]) if from_new else (self.am, old[0])
 
-    def refer(self, page: int, fixed: set[int]) -> int | None:
+    def reference(self, page: int, fixed: set[int]) -> int | None:
         """A reference to a page; the page that goes for it."""
         if page in self.am:
             self.am.remove(page)
@@ -155,7 +155,7 @@ class Client:
             return f"refused {why}"
         if page in self.content:
             self.locked.add(page)
-            self.pool.refer(page, self.fixed())
+            self.pool.reference(page, self.fixed())
             return shown(self.content[page])
         self.ask = ("read", page)
         self.say("AskRead", self.txn, page)
@@ -239,7 +239,7 @@ class Client:
 
     def bring(self, page: int, byte: int) -> None:
         """The page's bytes come into the pool; another page goes for them, if one has to."""
-        gone = self.pool.refer(page, self.fixed())
+        gone = self.pool.reference(page, self.fixed())
         if gone is not None and gone in self.locked:
             del self.content[gone]
         elif gone is not None:

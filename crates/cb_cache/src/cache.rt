@@ -167,16 +167,15 @@ impl<Q: Chooser> Cache<Q> {
         self.pool.bytes(page)
     }
 
-    /// Refers to a page, if its bytes are in the pool, and says whether they are.
-    ///
-    /// The copies stay the same, but for that reference.
-    pub fn refer(&mut self, page: PageNo) -> bool
+    /// Tells the pool's chooser of a reference to a page, if its bytes are in the pool, and says
+    /// whether they are. The copies stay the same but for that reference.
+    pub fn reference(&mut self, page: PageNo) -> bool
         ensures here { result ≡ is_some (content_at self.old page) }
         ensures same { self.new ≡ referred_to self.old page }
         ensures away { result ≡ false → self.new ≡ self.old }
         ensures sound { AreCopies self.new }
     {
-        self.pool.touch(page)
+        self.pool.reference(page)
     }
 
     /// Whether the pool can take in one more page.

@@ -4,4 +4,4 @@ pub mod Parts
 pub mod ByTable
 pub mod GrantCases
 pub mod Room
-pub mod Meeting
+pub mod Receiving

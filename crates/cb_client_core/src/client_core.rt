@@ -12,6 +12,8 @@ use cb_frame::{ShortBody, ShortFrame};
 use cb_locks::ReadLocks;
 use cb_page::{ClientNo, Incarnation, TxnNo};
 use cb_twoq::Chooser;
+pub use granted::GrantCase;
+pub use taking::Received;
 
 /// One incarnation of a client over any pool. Its fields change step by step. Between two calls
 /// they agree; whoever changes them has to show that.

@@ -13,6 +13,6 @@ mod client_core;
 mod stage;
 mod writes;
 
-pub use client_core::ClientCore;
+pub use client_core::{ClientCore, GrantCase, Received};
 pub use stage::{ClientStatus, Outcome, PendingAsk, Stage};
 pub use writes::written_so_far;

@@ -168,23 +168,22 @@ impl<Q: Chooser> Pool<Q> {
         Some(bytes)
     }
 
-    /// Refers to a page, if it is here, and says whether it is.
-    ///
-    /// The pool is the same, but for that reference.
-    pub fn touch(&mut self, page: PageNo) -> bool
+    /// Tells the chooser of a reference to a page, if it is here, and says whether it is. It lends
+    /// nothing, and the pool is the same but for that reference.
+    pub fn reference(&mut self, page: PageNo) -> bool
         ensures here { result ≡ is_some (copy_of self.old page) }
         ensures same { self.new ≡ referred self.old page }
         ensures away { result ≡ false → self.new ≡ self.old }
     {
         let here = self.copies.has(page);
         if here {
-            self.refer(page);
+            self.reference_here(page);
         }
         here
     }
 
-    /// Refers to a page that is here.
-    fn refer(&mut self, page: PageNo)
+    /// Tells the chooser of a reference to a page that is here.
+    fn reference_here(&mut self, page: PageNo)
         requires { IsTrue (is_some (copy_of self.old page)) }
         ensures { self.new ≡ record self.old { calls = with_reference self.old page } }
     {

@@ -179,9 +179,9 @@ impl<Q: Chooser> Client<Q> {
         Ok(())
     }
 
-    /// Reads the page if its bytes are in the pool, and says whether they are: a transaction is
-    /// open, and waits for nothing.
-    fn read_copy(&mut self, page: PageNo) -> bool
+    /// Locks the page if its bytes are in the pool, which counts as a reference to it, and says
+    /// whether they are: a transaction is open, and waits for nothing.
+    fn lock_here(&mut self, page: PageNo) -> bool
         requires free { IsDecided {X = ⊤} self.old CallFinish (Ok tt) }
         ensures here { result ≡ is_some (content_at self.old.copies page) }
         ensures read { IsTrue result → self.new ≡ page_read self.old page }
@@ -189,7 +189,7 @@ impl<Q: Chooser> Client<Q> {
         ensures page { IsTrue result → page < self.old.copies.limits.pages }
         ensures locks { IsTrue result → page < length self.old.locks.locked }
     {
-        if !self.core.copies.refer(page) {
+        if !self.core.copies.reference(page) {
             return false;
         }
         self.core.locks.lock(page);
@@ -207,7 +207,7 @@ impl<Q: Chooser> Client<Q> {
             (sees page (bytes_at self.old page)) self.new }
     {
         match self.check_finish() {
-            Ok(()) => self.read_copy(page),
+            Ok(()) => self.lock_here(page),
             Err(_) => false,
         }
     }
@@ -242,7 +242,7 @@ impl<Q: Chooser> Client<Q> {
         ensures page { IfOk result (λ here. IsTrue here → page < length self.old.locks.locked) }
     {
         self.check_finish()?;
-        if self.read_copy(page) {
+        if self.lock_here(page) {
             return Ok(true);
         }
         self.ask_to_read(page)?;

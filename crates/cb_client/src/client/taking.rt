@@ -15,8 +15,9 @@ ghost use Rattle.cb_outbox.specs.Messages.{messages_of};
 
 use crate::client::Client;
 use crate::client_fault::ClientFault;
-use cb_frame::{BytesFault, Frame, decode};
-use cb_page::{ClientNo, Incarnation};
+use cb_client_core::Received;
+use cb_frame::{Body, BytesFault, Frame, decode};
+use cb_page::{ClientNo, Incarnation, Page};
 use cb_twoq::Chooser;
 use std::alloc::Global;
 
@@ -45,7 +46,27 @@ impl<Q: Chooser> Client<Q> {
         if !self.is_addressed(frame.client, frame.incarnation) {
             return Ok(Vec::new(alloc));
         }
-        Ok(self.core.take_body(alloc, &frame.body)?)
+        let case = match self.core.receive(alloc, &frame.body)? {
+            Received::Said(said) => return Ok(said),
+            Received::Brings(case) => case,
+        };
+        let Body::Granted {
+            page,
+            grant,
+            version,
+            bytes,
+        } = &frame.body
+        else {
+            unreachable!()
+        };
+        let copy = Page::copy_of(alloc, bytes.as_slice())?;
+        match self
+            .core
+            .bring_in(alloc, case, *page, *grant, *version, copy)
+        {
+            Ok(said) => Ok(said),
+            Err(_) => Err(ClientFault::Memory),
+        }
     }
 
     /// As `take`, but the frame is handed over: the bytes of a page that comes in are moved, and

@@ -33,7 +33,7 @@ use std::alloc::AllocFailed;
 
 /// What becomes of a grant that comes.
 #[derive(Clone, Copy)]
-pub(super) enum GrantCase {
+pub enum GrantCase {
     /// Nothing: its bytes are here, or were not asked for.
     Ignored,
     /// It is given back: it isn't the one held, or not a new one that was asked for.

@@ -3,7 +3,7 @@ ghost use Rattle.std.specs.Prelude.{◌≡◌, ◌<◌, ℕ, List, true, false, 
 ghost use Rattle.std.specs.Vec.{vec_capacity};
 ghost use Rattle.cb_client_core.specs.ByTable.{Takes, limits_at};
 ghost use Rattle.cb_client_core.specs.ClientState.{IsClient};
-ghost use Rattle.cb_client_core.specs.Meeting.{BringsSo, IfBrings, IsBrought, Meets};
+ghost use Rattle.cb_client_core.specs.Receiving.{BringsSo, IfBrings, IsBrought, Receives};
 ghost use Rattle.cb_client_core.specs.Parts.{client_in};
 ghost use Rattle.cb_client_core.specs.Room.{brings_in, room_at};
 ghost use Rattle.cb_frame.specs.Grammar.{BodyFits, ShortFits};
@@ -19,54 +19,22 @@ use cb_page::{GrantNo, Page, PageNo, TxnNo, Version};
 use cb_twoq::Chooser;
 use std::alloc::{AllocError, AllocFailed, Global};
 
-/// What became of a message.
-pub(super) enum Met {
-    /// It was taken, and the client says this.
+/// How far a message was taken.
+pub enum Received {
+    /// Whole, and the client says this.
     Said(Vec<Frame>),
-    /// It brings a page into the pool. Nothing has changed.
+    /// Not yet, since it brings a page into the pool: nothing has changed.
     Brings(GrantCase),
 }
 
 impl<Q: Chooser> ClientCore<Q> {
     /// Takes the body of a frame of its own number and incarnation, and returns the frames that the
     /// client sends in answer. A body for the server is ignored. Before the Welcome, so is every
-    /// body but the Welcome. The bytes of a page that comes in are copied.
+    /// body but the Welcome. The bytes of a page that comes in are moved.
     ///
-    /// `AllocError` only if a growth was refused; nothing changes then. It makes room for the
-    /// frames that the message may need and no more. It needs no memory, and so isn't refused, if
-    /// the message needs no frame and no page comes into the pool.
-    pub fn take_body(&mut self, alloc: Global, body: &Body) -> Result<Vec<Frame>, AllocError>
-        requires sound { IsClient (client_in self.old) }
-        requires body { BodyFits self.old.copies.limits body.now }
-        ensures ok { IfOk result (λ said. Takes (client_in self.old) (body_of body.now)
-            (messages_of said.items) (client_in self.new)) }
-        ensures err { OnErr result (self.new ≡ self.old) }
-        ensures room { IfOk result (λ said. vec_capacity said
-            ≡ room_at (client_in self.old) (body_of body.now)) }
-        ensures none { room_at (client_in self.old) (body_of body.now) ≡ 0
-            → brings_in (client_in self.old) (body_of body.now) ≡ false → IsOk result }
-        ensures sound { IsClient (client_in self.new) }
-    {
-        match self.meet(alloc, body)? {
-            Met::Said(said) => Ok(said),
-            Met::Brings(case) => {
-                let Body::Granted {
-                    page,
-                    grant,
-                    version,
-                    bytes,
-                } = body
-                else {
-                    unreachable!()
-                };
-                let copy = Page::copy_of(alloc, bytes.as_slice())?;
-                Ok(self.bring_in(alloc, case, *page, *grant, *version, copy)?)
-            }
-        }
-    }
-
-    /// As `take_body`, but the bytes of a page that comes in are moved, and the body comes back if
-    /// a growth was refused.
+    /// It is refused only if a growth was; then nothing changes, and the body comes back. It makes
+    /// room for the frames that the message may need and no more. It needs no memory, and so isn't
+    /// refused, if the message needs no frame and no page comes into the pool.
     pub fn take_owned(&mut self, alloc: Global, body: Body) -> Result<Vec<Frame>, AllocFailed<Body>>
         requires sound { IsClient (client_in self.old) }
         requires body { BodyFits self.old.copies.limits body }
@@ -80,50 +48,51 @@ impl<Q: Chooser> ClientCore<Q> {
             → brings_in (client_in self.old) (body_of body) ≡ false → IsOk result }
         ensures sound { IsClient (client_in self.new) }
     {
-        match self.meet(alloc, &body) {
+        match self.receive(alloc, &body) {
             Err(_) => Err(AllocFailed { value: body }),
-            Ok(Met::Said(said)) => Ok(said),
-            Ok(Met::Brings(case)) => self.bring_body_in(alloc, case, body),
+            Ok(Received::Said(said)) => Ok(said),
+            Ok(Received::Brings(case)) => self.bring_body_in(alloc, case, body),
         }
     }
 
-    /// Takes the body, unless it brings a page in.
-    fn meet(&mut self, alloc: Global, body: &Body) -> Result<Met, AllocError>
+    /// Takes a body as `take_owned` does, unless it brings a page into the pool: whoever has the
+    /// page's bytes then calls `bring_in`.
+    pub fn receive(&mut self, alloc: Global, body: &Body) -> Result<Received, AllocError>
         requires sound { IsClient (client_in self.old) }
         requires body { BodyFits self.old.copies.limits body.now }
-        ensures meets { IfOk result (λ met.
-            Meets (client_in self.old) (body_of body.now) met (client_in self.new)) }
-        ensures brings { IfOk result (λ met. IfBrings met (self.new ≡ self.old)) }
+        ensures receives { IfOk result (λ received.
+            Receives (client_in self.old) (body_of body.now) received (client_in self.new)) }
+        ensures brings { IfOk result (λ received. IfBrings received (self.new ≡ self.old)) }
         ensures err { OnErr result (self.new ≡ self.old) }
         ensures none { room_at (client_in self.old) (body_of body.now) ≡ 0 → IsOk result }
         ensures sound { IsClient (client_in self.new) }
     {
         match body {
-            Body::Short(body) => Ok(Met::Said(self.take_short(alloc, *body)?)),
-            Body::Commit { .. } => Ok(Met::Said(Vec::new(alloc))),
+            Body::Short(body) => Ok(Received::Said(self.take_short(alloc, *body)?)),
+            Body::Commit { .. } => Ok(Received::Said(Vec::new(alloc))),
             Body::Granted {
                 page,
                 grant,
                 version,
                 ..
-            } => self.meet_granted(alloc, *page, *grant, *version),
+            } => self.receive_granted(alloc, *page, *grant, *version),
         }
     }
 
     /// Takes a Granted, whatever its bytes, unless it brings its page in.
-    fn meet_granted(
+    fn receive_granted(
         &mut self,
         alloc: Global,
         page: PageNo,
         grant: GrantNo,
         version: Version,
-    ) -> Result<Met, AllocError>
+    ) -> Result<Received, AllocError>
         requires sound { IsClient (client_in self.old) }
         requires page { page < self.old.copies.limits.pages }
         requires grant { IsNumber grant }
-        ensures meets { IfOk result (λ met. (bytes : List ℕ) → Meets (client_in self.old)
-            (Granted page grant version bytes) met (client_in self.new)) }
-        ensures brings { IfOk result (λ met. IfBrings met (self.new ≡ self.old)) }
+        ensures receives { IfOk result (λ received. (bytes : List ℕ) → Receives (client_in self.old)
+            (Granted page grant version bytes) received (client_in self.new)) }
+        ensures brings { IfOk result (λ received. IfBrings received (self.new ≡ self.old)) }
         ensures err { OnErr result (self.new ≡ self.old) }
         ensures none { (bytes : List ℕ)
             → room_at (client_in self.old) (Granted page grant version bytes) ≡ 0 → IsOk result }
@@ -131,17 +100,17 @@ impl<Q: Chooser> ClientCore<Q> {
             (Granted page grant version bytes) → IsClient (client_in self.new) }
     {
         if !self.welcomed {
-            return Ok(Met::Said(Vec::new(alloc)));
+            return Ok(Received::Said(Vec::new(alloc)));
         }
         let case = self.case_of(page, grant, version);
         if case.comes_in() {
-            return Ok(Met::Brings(case));
+            return Ok(Received::Brings(case));
         }
         let mut frames = Vec::with_capacity(alloc, self.room_of_grant(case))?;
         if let Some(frame) = self.turn_away(case, page, grant) {
             frames.push_reserved(frame);
         }
-        Ok(Met::Said(frames))
+        Ok(Received::Said(frames))
     }
 
     /// Takes the body of a Granted whose page comes in.
@@ -249,8 +218,9 @@ impl<Q: Chooser> ClientCore<Q> {
         Ok(frames)
     }
 
-    /// Takes a Granted whose page comes in.
-    fn bring_in(
+    /// Takes a Granted whose page comes in, as `receive` answered. It is refused only if a growth
+    /// was; then nothing changes, and the bytes come back.
+    pub fn bring_in(
         &mut self,
         alloc: Global,
         case: GrantCase,

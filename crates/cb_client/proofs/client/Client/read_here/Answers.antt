@@ -5,13 +5,13 @@ use Rattle.std.proofs.Common.{sym}
 use Rattle.cb_client.proofs.client.Client.read_here.Goals as goal
 
 pub returns-in-Ok-clause-here : goal.returns-in-Ok-clause-here
-returns-in-Ok-clause-here g c = (copied c.args.self.now c.read_copy.new.self c.args.page c.in-Ok.ensures.decided c.read_copy.result c.read_copy.ensures.here c.read_copy.ensures.read c.read_copy.ensures.away c.read_copy.ensures.page c.read_copy.ensures.locks).0
+returns-in-Ok-clause-here g c = (copied c.args.self.now c.lock_here.new.self c.args.page c.in-Ok.ensures.decided c.lock_here.result c.lock_here.ensures.here c.lock_here.ensures.read c.lock_here.ensures.away c.lock_here.ensures.page c.lock_here.ensures.locks).0
 
 pub returns-in-Ok-clause-after : goal.returns-in-Ok-clause-after
-returns-in-Ok-clause-after g c = (copied c.args.self.now c.read_copy.new.self c.args.page c.in-Ok.ensures.decided c.read_copy.result c.read_copy.ensures.here c.read_copy.ensures.read c.read_copy.ensures.away c.read_copy.ensures.page c.read_copy.ensures.locks).1
+returns-in-Ok-clause-after g c = (copied c.args.self.now c.lock_here.new.self c.args.page c.in-Ok.ensures.decided c.lock_here.result c.lock_here.ensures.here c.lock_here.ensures.read c.lock_here.ensures.away c.lock_here.ensures.page c.lock_here.ensures.locks).1
 
 pub returns-in-Ok-clause-by_table : goal.returns-in-Ok-clause-by_table
-returns-in-Ok-clause-by_table g c = (copied c.args.self.now c.read_copy.new.self c.args.page c.in-Ok.ensures.decided c.read_copy.result c.read_copy.ensures.here c.read_copy.ensures.read c.read_copy.ensures.away c.read_copy.ensures.page c.read_copy.ensures.locks).2
+returns-in-Ok-clause-by_table g c = (copied c.args.self.now c.lock_here.new.self c.args.page c.in-Ok.ensures.decided c.lock_here.result c.lock_here.ensures.here c.lock_here.ensures.read c.lock_here.ensures.away c.lock_here.ensures.page c.lock_here.ensures.locks).2
 
 pub returns-in-Err-clause-here : goal.returns-in-Err-clause-here
 returns-in-Err-clause-here g c = sym (refused_here c.args.self.now c.args.page c.in-Err.field-0

@@ -1,6 +1,6 @@
--- Goals of `Pool::refer`.
+-- Goals of `Pool::reference_here`.
 use Rattle.cb_pool.proofs.Agreeing.{referred_here}
-use Rattle.cb_pool.proofs.pool.Pool.refer.Goals as goal
+use Rattle.cb_pool.proofs.pool.Pool.reference_here.Goals as goal
 
 pub invariant_of-self : goal.invariant_of-self
 invariant_of-self g c =

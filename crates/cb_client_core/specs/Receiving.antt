@@ -8,8 +8,8 @@ use Rattle.cb_client_core.specs.ClientState.{ClientState}
 use Rattle.cb_client_core.specs.GrantCases.{case_at}
 use Rattle.cb_client_core.specs.Room.{comes_in, room_at}
 use Rattle.cb_client_core.specs.declared.client_core.granted.GrantCase.{GrantCase}
-use Rattle.cb_client_core.specs.declared.client_core.taking.Met.{Met}
-use Rattle.cb_client_core.specs.declared.client_core.taking.Met.TheVariants as met
+use Rattle.cb_client_core.specs.declared.client_core.taking.Received.{Received}
+use Rattle.cb_client_core.specs.declared.client_core.taking.Received.TheVariants as received
 
 -- A welcomed client's grant whose page comes into the pool.
 pub record IsBrought (client : ClientState) (page grant version : ℕ) (case : GrantCase)
@@ -24,12 +24,12 @@ BringsSo client (Granted page grant version bytes) case = IsBrought client page 
 BringsSo client _ case = ⊥
 
 -- the message was taken, with room for just what it may need; or it brings a page in
-abbrev pub Meets : ClientState → Body → Met → ClientState → Type 0
-Meets old message (met.Said said) new = Takes old message (messages_of said.items) new
+abbrev pub Receives : ClientState → Body → Received → ClientState → Type 0
+Receives old message (received.Said said) new = Takes old message (messages_of said.items) new
     × (vec_capacity said ≡ room_at old message)
-Meets old message (met.Brings case) new = BringsSo old message case
+Receives old message (received.Brings case) new = BringsSo old message case
 
 -- what holds where it brings one
-abbrev pub IfBrings : Met → Type 0 → Type 0
-IfBrings (met.Said said) Holds = ⊤
-IfBrings (met.Brings case) Holds = Holds
+abbrev pub IfBrings : Received → Type 0 → Type 0
+IfBrings (received.Said said) Holds = ⊤
+IfBrings (received.Brings case) Holds = Holds
