@@ -20,5 +20,5 @@ mod picture;
 pub use arrows::{Arrow, Sending};
 pub use bars::{Bar, ClientCopy};
 pub use chart::{Chart, ChartFault, MOST_EVENTS};
-pub use marks::{Ending, Mark};
+pub use marks::{Mark, TransactionEnd};
 pub use picture::{PictureFault, chart_to};

@@ -7,7 +7,7 @@ use cb_world::World;
 
 /// How a client's transaction ended.
 #[derive(Clone, Copy, Debug, PartialEq, Eq)]
-pub struct Ending {
+pub struct TransactionEnd {
     pub client: ClientNo,
     pub outcome: Outcome,
 }
@@ -18,7 +18,7 @@ pub struct Mark {
     /// How many commits the server had made after it.
     pub commits: usize,
     /// The transaction that its client took as ended by it.
-    pub ended: Option<Ending>,
+    pub ended: Option<TransactionEnd>,
 }
 
 /// The clients of the world that have a transaction.
@@ -43,13 +43,13 @@ fn is_at_work(status: ClientStatus) -> bool {
 }
 
 /// The transaction that ended, of one of the clients that had one.
-pub(crate) fn ended<Q: Chooser>(world: &World<Q>, before: ClientSet) -> Option<Ending> {
+pub(crate) fn ended<Q: Chooser>(world: &World<Q>, before: ClientSet) -> Option<TransactionEnd> {
     let mut from = 0;
     for _client in 0..32u16 {
         let number = before.next(from)?;
         if let Some(client) = world.client(number) {
             if let Some(outcome) = outcome_of(client) {
-                return Some(Ending {
+                return Some(TransactionEnd {
                     client: number,
                     outcome,
                 });

@@ -54,7 +54,7 @@ fn pause(left: u64) -> Duration {
 
 /// The office that a flusher works for. Of a reference alone a loop's invariant has no address.
 #[derive(Drop)]
-struct Desk<'a> {
+struct LentOffice<'a> {
     office: &'a Office,
 }
 
@@ -77,8 +77,8 @@ pub fn flush_in_tries<'a, R: Wait + Clock, S: Alter, W: Watch>(
     ensures crash { Survives (state S.Store shelf.old.conn) (state S.Store shelf.new.conn)
         (MadeAtLast S.Store shelf.old.limits shelf.old.conn) }
 {
-    let desk = Desk { office };
-    let mut stopped = flush_counted(rt, alloc, desk.office, shelf, watch);
+    let lent = LentOffice { office };
+    let mut stopped = flush_counted(rt, alloc, lent.office, shelf, watch);
     let mut left = TRIES;
     let mut last = 0;
     for _ in rt.forever() {
@@ -89,12 +89,12 @@ pub fn flush_in_tries<'a, R: Wait + Clock, S: Alter, W: Watch>(
         left = tries_left(&counted, last, left);
         let stop = counted.into_stop();
         if left == 0 {
-            desk.office.halt(rt);
+            lent.office.halt(rt);
             return Err(stop.fault);
         }
         last = batch_number(&stop);
         thread::sleep(rt, pause(left));
-        stopped = flush_counted_again(rt, alloc, desk.office, shelf, watch, stop);
+        stopped = flush_counted_again(rt, alloc, lent.office, shelf, watch, stop);
     }
     unreachable!()
 }

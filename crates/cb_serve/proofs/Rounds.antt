@@ -34,7 +34,7 @@ use Rattle.cb_serve.specs.declared.fault.RoundFault.{RoundFault}
 use Rattle.cb_serve.specs.declared.fault.RoundFault.TheVariants as round
 use Rattle.cb_serve.specs.declared.fault.ServeFault.{ServeFault}
 use Rattle.cb_serve.specs.declared.fault.ServeFault.TheVariants as fault
-use Rattle.cb_serve.specs.declared.round.Desk.{Desk}
+use Rattle.cb_serve.specs.declared.round.Buffers.{Buffers}
 use Rattle.cb_serve.specs.declared.round.RoundEnd.{RoundEnd}
 use Rattle.cb_serve.specs.declared.round.RoundEnd.TheVariants as end
 use Rattle.cb_serve.specs.declared.taking.Taken.{Taken}
@@ -126,12 +126,12 @@ module _ {S : Type 0} (g : Ghosts S) where
       subst (λ (s : Server). KnowsBelow s new_life.below) (sym c.becomes) (known_on_disk (server_of mid) c.batch new_life.below keeps.known)
 
   -- the parts of a round are a round
-  pub does_round : (limits : Bounds) (old mid new : ServerValue) (desk read_desk after : Desk) (first tables later : Held S) (life new_life : LifeState) (read : List ℕ) (taken : Taken)
+  pub does_round : (limits : Bounds) (old mid new : ServerValue) (buffers read_buffers after : Buffers) (first tables later : Held S) (life new_life : LifeState) (read : List ℕ) (taken : Taken)
       (in1 in2 out1 out2 out3 : Option (List ℕ)) → KeepsRoom g (server_of mid) life new_life first tables → old.limits ≡ limits
-      → read_desk.pending.items ≡ desk.pending.items ++ read → read_desk.passed_over ≡ desk.passed_over → Consumes in1 in2 read → read ≢ []
-      → Answered old read_desk after taken mid out1 out2 → Commits g mid tables later new out2 out3
-      → DoesRound g limits (standing g old desk first) (standing g new after later) life new_life in1 in2 out1 out3
-  does_round limits old mid new desk read_desk after first tables later life new_life read taken in1 in2 out1 out2 out3 keeps same reads counts consumes some a c =
+      → read_buffers.pending.items ≡ buffers.pending.items ++ read → read_buffers.passed_over ≡ buffers.passed_over → Consumes in1 in2 read → read ≢ []
+      → Answered old read_buffers after taken mid out1 out2 → Commits g mid tables later new out2 out3
+      → DoesRound g limits (standing g old buffers first) (standing g new after later) life new_life in1 in2 out1 out3
+  does_round limits old mid new buffers read_buffers after first tables later life new_life read taken in1 in2 out1 out2 out3 keeps same reads counts consumes some a c =
       let inputs = inputs_in a.pieces in
       let is : server_of mid ≡ after_inputs (server_of old) (inputs_in a.pieces) = a.takes.answers.becomes in
       let kept : mid.limits ≡ limits = a.takes.answers.limits ∙ same in
@@ -144,7 +144,7 @@ module _ {S : Type 0} (g : Ghosts S) where
           is = record {
             some = some;
             are = subst (λ (l : Bounds). AllByRecursion (IsPiece l) a.pieces) same a.takes.are;
-            cut = sym reads ∙ sym (take-append-drop taken.used read_desk.pending.items) ∙ ap (λ (k : List ℕ). k ++ drop taken.used read_desk.pending.items) a.takes.cut
+            cut = sym reads ∙ sym (take-append-drop taken.used read_buffers.pending.items) ∙ ap (λ (k : List ℕ). k ++ drop taken.used read_buffers.pending.items) a.takes.cut
                 ∙ ap (λ (k : List ℕ). flat_map bytes_of a.pieces ++ k) (sym a.rest);
             rest = subst (λ (l : Bounds). IsRest l after.pending.items) same (rest_at old.limits after.pending.items taken.ends a.part a.no_frame);
             passed = subst (λ (n : ℕ). after.passed_over ≡ counted_on n (count_passed a.pieces)) counts a.passed;
@@ -162,13 +162,13 @@ module _ {S : Type 0} (g : Ghosts S) where
       }
 
   -- the input has ended
-  pub ended_round : (limits : Bounds) (server : ServerValue) (desk after : Desk) (tables : Held S) (life : LifeState) (read : List ℕ) (in1 in2 out : Option (List ℕ))
-      → after.pending.items ≡ desk.pending.items ++ read → after.passed_over ≡ desk.passed_over → read ≡ [] → Consumes in1 in2 read → IsAtEnd in2
-      → EndsRound g limits end.Ended (standing g server desk tables) (standing g server after tables) life life in1 in2 out out
-  ended_round limits server desk after tables life read in1 in2 out reads counts none consumes at_end =
-      let waiting : after.pending.items ≡ desk.pending.items = reads ∙ ap (λ (k : List ℕ). desk.pending.items ++ k) none ∙ append-nil desk.pending.items in (
+  pub ended_round : (limits : Bounds) (server : ServerValue) (buffers after : Buffers) (tables : Held S) (life : LifeState) (read : List ℕ) (in1 in2 out : Option (List ℕ))
+      → after.pending.items ≡ buffers.pending.items ++ read → after.passed_over ≡ buffers.passed_over → read ≡ [] → Consumes in1 in2 read → IsAtEnd in2
+      → EndsRound g limits end.Ended (standing g server buffers tables) (standing g server after tables) life life in1 in2 out out
+  ended_round limits server buffers after tables life read in1 in2 out reads counts none consumes at_end =
+      let waiting : after.pending.items ≡ buffers.pending.items = reads ∙ ap (λ (k : List ℕ). buffers.pending.items ++ k) none ∙ append-nil buffers.pending.items in (
         ap (λ (k : List ℕ). record { server = server_of server; waiting = k; passed = after.passed_over; tables = tables }) waiting
-            ∙ ap (λ (n : ℕ). record { server = server_of server; waiting = desk.pending.items; passed = n; tables = tables }) counts,
+            ∙ ap (λ (n : ℕ). record { server = server_of server; waiting = buffers.pending.items; passed = n; tables = tables }) counts,
         subst (λ (k : List ℕ). Consumes in1 in2 k) none consumes,
         at_end,
         refl,
@@ -209,9 +209,9 @@ module _ {S : Type 0} (g : Ghosts S) where
       record { read = read; reads = consumes; put = []; puts = Appends-nil out; cause = cause_of_reading f read why; stopped = λ begins. inl (old.tables, life, had refl refl, stopped_still limits f old read why begins) }
 
   -- some answers were put out
-  pub stops_answering : (limits : Bounds) (f : RoundFault) (old : ServerValue) (desk : Desk) (first tables : Held S) (life new_life : LifeState) (read bytes : List ℕ) (in1 in2 out1 out2 : Option (List ℕ)) → MakesRoom g life new_life first tables → old.limits ≡ limits
-      → bytes ≡ desk.pending.items ++ read → Consumes in1 in2 read → HasCause f read → StopsAnswering f old bytes out1 out2 → StopsRound g limits f (standing g old desk first) life tables in1 in2 out1 out2
-  stops_answering limits f old desk first tables life new_life read bytes in1 in2 out1 out2 room same reads consumes cause a = record {
+  pub stops_answering : (limits : Bounds) (f : RoundFault) (old : ServerValue) (buffers : Buffers) (first tables : Held S) (life new_life : LifeState) (read bytes : List ℕ) (in1 in2 out1 out2 : Option (List ℕ)) → MakesRoom g life new_life first tables → old.limits ≡ limits
+      → bytes ≡ buffers.pending.items ++ read → Consumes in1 in2 read → HasCause f read → StopsAnswering f old bytes out1 out2 → StopsRound g limits f (standing g old buffers first) life tables in1 in2 out1 out2
+  stops_answering limits f old buffers first tables life new_life read bytes in1 in2 out1 out2 room same reads consumes cause a = record {
     read = read;
     reads = consumes;
     put = a.put;
@@ -254,9 +254,9 @@ module _ {S : Type 0} (g : Ghosts S) where
       told (round.Input r) wrong = absurd wrong
 
   -- there was no room for whom the server knew
-  pub stops_without_room : (limits : Bounds) (f : RoundFault) (old : ServerValue) (desk : Desk) (first tables : Held S) (life : LifeState) (read bytes : List ℕ) (in1 in2 out1 out2 : Option (List ℕ)) → old.limits ≡ limits
-      → bytes ≡ desk.pending.items ++ read → Consumes in1 in2 read → HasCause f read → FindsNoRoom g f old bytes life first tables out1 out2 → StopsRound g limits f (standing g old desk first) life tables in1 in2 out1 out2
-  stops_without_room limits f old desk first tables life read bytes in1 in2 out1 out2 same reads consumes cause a = record {
+  pub stops_without_room : (limits : Bounds) (f : RoundFault) (old : ServerValue) (buffers : Buffers) (first tables : Held S) (life : LifeState) (read bytes : List ℕ) (in1 in2 out1 out2 : Option (List ℕ)) → old.limits ≡ limits
+      → bytes ≡ buffers.pending.items ++ read → Consumes in1 in2 read → HasCause f read → FindsNoRoom g f old bytes life first tables out1 out2 → StopsRound g limits f (standing g old buffers first) life tables in1 in2 out1 out2
+  stops_without_room limits f old buffers first tables life read bytes in1 in2 out1 out2 same reads consumes cause a = record {
     read = read;
     reads = consumes;
     put = [];
@@ -275,19 +275,19 @@ module _ {S : Type 0} (g : Ghosts S) where
   }
 
   -- whichever of both it was
-  pub stops_within : (limits : Bounds) (f : RoundFault) (old : ServerValue) (desk : Desk) (first tables : Held S) (life : LifeState) (read bytes : List ℕ) (in1 in2 out1 out2 : Option (List ℕ)) → old.limits ≡ limits
-      → bytes ≡ desk.pending.items ++ read → Consumes in1 in2 read → HasCause f read → StopsWithin g f old bytes life first tables out1 out2 → StopsRound g limits f (standing g old desk first) life tables in1 in2 out1 out2
-  stops_within limits f old desk first tables life read bytes in1 in2 out1 out2 same reads consumes cause (inl a) =
-      stops_answering limits f old desk first tables life a.0 read bytes in1 in2 out1 out2 a.1 same reads consumes cause a.2
-  stops_within limits f old desk first tables life read bytes in1 in2 out1 out2 same reads consumes cause (inr a) =
-      stops_without_room limits f old desk first tables life read bytes in1 in2 out1 out2 same reads consumes cause a
+  pub stops_within : (limits : Bounds) (f : RoundFault) (old : ServerValue) (buffers : Buffers) (first tables : Held S) (life : LifeState) (read bytes : List ℕ) (in1 in2 out1 out2 : Option (List ℕ)) → old.limits ≡ limits
+      → bytes ≡ buffers.pending.items ++ read → Consumes in1 in2 read → HasCause f read → StopsWithin g f old bytes life first tables out1 out2 → StopsRound g limits f (standing g old buffers first) life tables in1 in2 out1 out2
+  stops_within limits f old buffers first tables life read bytes in1 in2 out1 out2 same reads consumes cause (inl a) =
+      stops_answering limits f old buffers first tables life a.0 read bytes in1 in2 out1 out2 a.1 same reads consumes cause a.2
+  stops_within limits f old buffers first tables life read bytes in1 in2 out1 out2 same reads consumes cause (inr a) =
+      stops_without_room limits f old buffers first tables life read bytes in1 in2 out1 out2 same reads consumes cause a
 
   -- the answers were put out, and some of the Dones, or none
-  pub stops_committing : (limits : Bounds) (f : RoundFault) (old mid : ServerValue) (desk read_desk after : Desk) (first tables later : Held S) (life new_life : LifeState) (read : List ℕ) (taken : Taken)
-      (in1 in2 out1 out2 out3 : Option (List ℕ)) → MakesRoom g life new_life first tables → old.limits ≡ limits → read_desk.pending.items ≡ desk.pending.items ++ read → Consumes in1 in2 read → HasCause f read
-      → Answered old read_desk after taken mid out1 out2 → StopsCommit g f mid tables later out2 out3
-      → StopsRound g limits f (standing g old desk first) life later in1 in2 out1 out3
-  stops_committing limits f old mid desk read_desk after first tables later life new_life read taken in1 in2 out1 out2 out3 room same reads consumes cause a c =
+  pub stops_committing : (limits : Bounds) (f : RoundFault) (old mid : ServerValue) (buffers read_buffers after : Buffers) (first tables later : Held S) (life new_life : LifeState) (read : List ℕ) (taken : Taken)
+      (in1 in2 out1 out2 out3 : Option (List ℕ)) → MakesRoom g life new_life first tables → old.limits ≡ limits → read_buffers.pending.items ≡ buffers.pending.items ++ read → Consumes in1 in2 read → HasCause f read
+      → Answered old read_buffers after taken mid out1 out2 → StopsCommit g f mid tables later out2 out3
+      → StopsRound g limits f (standing g old buffers first) life later in1 in2 out1 out3
+  stops_committing limits f old mid buffers read_buffers after first tables later life new_life read taken in1 in2 out1 out2 out3 room same reads consumes cause a c =
       let is : server_of mid ≡ after_inputs (server_of old) (inputs_in a.pieces) = a.takes.answers.becomes in
       let kept : mid.limits ≡ limits = a.takes.answers.limits ∙ same in
       record {
@@ -303,9 +303,9 @@ module _ {S : Type 0} (g : Ghosts S) where
           record {
             begins = begins;
             pieces = a.pieces;
-            rest = drop taken.used read_desk.pending.items;
+            rest = drop taken.used read_buffers.pending.items;
             are = subst (λ (l : Bounds). AllByRecursion (IsPiece l) a.pieces) same a.takes.are;
-            cut = sym reads ∙ sym (take-append-drop taken.used read_desk.pending.items) ∙ ap (λ (k : List ℕ). k ++ drop taken.used read_desk.pending.items) a.takes.cut;
+            cut = sym reads ∙ sym (take-append-drop taken.used read_buffers.pending.items) ∙ ap (λ (k : List ℕ). k ++ drop taken.used read_buffers.pending.items) a.takes.cut;
             next = subst (λ (s : Server). IfSome c.batch (λ b. next_batch s ≡ Some (batch_of b))) is c.next;
             batch = c.batch;
             answers = a.answers;
@@ -321,7 +321,7 @@ module _ {S : Type 0} (g : Ghosts S) where
     where
       told : server_of mid ≡ after_inputs (server_of old) (inputs_in a.pieces) → mid.limits ≡ limits
           → (k : RoundFault) → PutsDones g k mid.limits c.put c.dones c.batch (server_of mid) tables later
-          → Tells g limits k (a.answers ++ c.put) a.pieces (drop taken.used read_desk.pending.items) a.answers c.dones c.batch
+          → Tells g limits k (a.answers ++ c.put) a.pieces (drop taken.used read_buffers.pending.items) a.answers c.dones c.batch
           (after_inputs (server_of old) (inputs_in a.pieces)) tables later
       told is kept round.Store h =
           (ap (λ (k : List ℕ). a.answers ++ k) h.0 ∙ append-nil a.answers, subst (λ (l : Bounds). StaysUnwritten g l c.batch tables later) kept h.1)

@@ -5,20 +5,20 @@ use Rattle.std.specs.IoError.{error_kind}
 use Rattle.std.specs.Io.KnownBytes.{Consumes, IsAtEnd}
 use Rattle.std.specs.declared.io.ErrorKind.{ErrorKind}
 use Rattle.std.specs.declared.io.ErrorKind.TheVariants.{Interrupted, OutOfMemory}
-use Rattle.cb_serve.specs.declared.calls.Refusal.{Refusal}
+use Rattle.cb_serve.specs.declared.calls.RefusedCall.{RefusedCall}
 
 -- no signal interrupted the call, so it isn't made again; or as many calls in a row were
 -- interrupted as 64 bits can count
-abbrev pub IsFinal : Refusal → Type 0
+abbrev pub IsFinal : RefusedCall → Type 0
 IsFinal refusal = (error_kind refusal.error ≢ Interrupted) ⊎ (refusal.calls ≡ 2 ^ 64 - 1)
 
 -- a signal interrupted the call, which is made again
-pub record IsPassing (refusal : Refusal) : Type 0 where
+pub record IsPassing (refusal : RefusedCall) : Type 0 where
   pub interrupted : error_kind refusal.error ≡ Interrupted
   pub few : refusal.calls < 2 ^ 64 - 1
 
 -- how many calls in a row were refused so far
-abbrev pub calls_of : Option Refusal → ℕ
+abbrev pub calls_of : Option RefusedCall → ℕ
 calls_of (Some refusal) = refusal.calls
 calls_of None = 0
 

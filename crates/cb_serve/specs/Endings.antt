@@ -9,7 +9,7 @@ use Rattle.cb_server.specs.declared.server_fault.ServerFault.TheVariants as serv
 use Rattle.cb_shelf.specs.declared.fault.ShelfFault.{ShelfFault}
 use Rattle.cb_shelf.specs.declared.fault.ShelfFault.TheVariants as shelf
 use Rattle.cb_serve.specs.Calls.{lacks_memory}
-use Rattle.cb_serve.specs.declared.calls.Refusal.{Refusal}
+use Rattle.cb_serve.specs.declared.calls.RefusedCall.{RefusedCall}
 use Rattle.cb_serve.specs.declared.fault.RoundFault.{RoundFault}
 use Rattle.cb_serve.specs.declared.fault.RoundFault.TheVariants as round
 use Rattle.cb_serve.specs.declared.fault.ServeFault.{ServeFault}
@@ -26,11 +26,11 @@ becomes_of_shelf shelf.Store = round.Store
 becomes_of_shelf shelf.Memory = round.Memory
 
 -- the line and the status of an input that couldn't be read, or for want of memory
-abbrev pub input_line : Refusal → List ℕ
+abbrev pub input_line : RefusedCall → List ℕ
 input_line refusal =
     if lacks_memory (error_kind refusal.error) then codes "memory" else codes "input: cannot read"
 
-abbrev pub input_status : Refusal → ℕ
+abbrev pub input_status : RefusedCall → ℕ
 input_status refusal = if lacks_memory (error_kind refusal.error) then 4 else 3
 
 -- the line and the status of a round that wasn't finished

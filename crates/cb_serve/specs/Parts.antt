@@ -30,21 +30,22 @@ use Rattle.cb_serve.specs.Serving.{HasCause, StopsInLife}
 use Rattle.cb_serve.specs.Streams.{IsNoFrame, IsPart, IsPiece, Piece, bytes_of, count_passed}
 use Rattle.cb_serve.specs.declared.fault.RoundFault.{RoundFault}
 use Rattle.cb_serve.specs.declared.fault.RoundFault.TheVariants as round
-use Rattle.cb_serve.specs.declared.round.Desk.{Desk}
+use Rattle.cb_serve.specs.declared.round.Buffers.{Buffers}
 use Rattle.cb_serve.specs.declared.round.RoundEnd.{RoundEnd}
 use Rattle.cb_serve.specs.declared.round.RoundEnd.TheVariants as end
 use Rattle.cb_serve.specs.declared.taking.Taken.{Taken}
 
 -- All whole pieces of what came are taken, and what is said to them is put out.
-pub record Answered (old : ServerValue) (desk after : Desk) (taken : Taken) (new : ServerValue)
+pub record Answered (old : ServerValue) (buffers after : Buffers) (taken : Taken)
+    (new : ServerValue)
     (old_out new_out : Option (List ℕ)) : Type 0 where
   pub pieces : List Piece
   pub answers : List ℕ
-  pub takes : TakesPieces old desk.pending.items pieces taken.used answers new
-  pub rest : after.pending.items ≡ drop taken.used desk.pending.items
+  pub takes : TakesPieces old buffers.pending.items pieces taken.used answers new
+  pub rest : after.pending.items ≡ drop taken.used buffers.pending.items
   pub part : taken.ends ≡ false → IsPart old.limits after.pending.items
   pub no_frame : taken.ends ≡ true → IsNoFrame old.limits after.pending.items
-  pub passed : after.passed_over ≡ counted_on desk.passed_over (count_passed pieces)
+  pub passed : after.passed_over ≡ counted_on buffers.passed_over (count_passed pieces)
   pub puts : Appends old_out new_out answers
 
 -- why nothing was taken of what was read: the read was refused, and gave nothing; or there was no
@@ -160,12 +161,12 @@ module _ {S : Type 0} (g : Ghosts S) where
     pub puts : Appends old_out new_out put
     pub told : PutsDones fault old.limits put dones batch (server_of old) old_tables new_tables
 
-  -- where a service with this server, this desk and these tables stands
-  abbrev pub standing : ServerValue → Desk → Held S → Standing S
-  standing server desk tables = record {
+  -- where a service with this server, this buffers and these tables stands
+  abbrev pub standing : ServerValue → Buffers → Held S → Standing S
+  standing server buffers tables = record {
     server = server_of server;
-    waiting = desk.pending.items;
-    passed = desk.passed_over;
+    waiting = buffers.pending.items;
+    passed = buffers.passed_over;
     tables = tables;
   }
 

@@ -14,13 +14,13 @@ use std::io::{ErrorKind, Read, Write};
 /// module make one, and nobody can copy it. A call that a signal interrupted is made again, and
 /// takes the refusal.
 #[derive(Debug, Drop)]
-pub struct Refusal {
+pub struct RefusedCall {
     error: io::Error,
     /// How many calls in a row were refused, this one among them.
     calls: u64,
 }
 
-impl Refusal {
+impl RefusedCall {
     /// The error of the call.
     pub fn error(&self) -> io::Error
         ensures { result ≡ self.now.error }
@@ -69,24 +69,24 @@ impl Refusal {
 }
 
 /// The refusal of a call behind an interrupted one, if there was one.
-fn behind(before: Option<Refusal>, error: io::Error) -> Refusal
+fn behind(before: Option<RefusedCall>, error: io::Error) -> RefusedCall
     requires { IfSome before IsPassing }
     ensures error { result.error ≡ error }
     ensures calls { result.calls ≡ calls_of before + 1 }
 {
     let calls = match before {
-        Some(Refusal { error: _, calls }) => calls + 1,
+        Some(RefusedCall { error: _, calls }) => calls + 1,
         None => 1,
     };
-    Refusal { error, calls }
+    RefusedCall { error, calls }
 }
 
 /// One read into the room: how many bytes came, none if the input has ended.
 fn read_once<R: Read>(
     input: &mut R,
     room: &mut [u8],
-    before: Option<Refusal>,
-) -> Result<usize, Refusal>
+    before: Option<RefusedCall>,
+) -> Result<usize, RefusedCall>
     requires room { 0 < length room.old }
     requires passing { IfSome before IsPassing }
     ensures ok { IfOk result (λ count. Reads (R.remaining input.old) (R.remaining input.new)
@@ -102,7 +102,7 @@ fn read_once<R: Read>(
 }
 
 /// Reads what is there: how many bytes came, none if the input has ended.
-pub(crate) fn read_some<R: Read>(input: &mut R, room: &mut [u8]) -> Result<usize, Refusal>
+pub(crate) fn read_some<R: Read>(input: &mut R, room: &mut [u8]) -> Result<usize, RefusedCall>
     requires { 0 < length room.old }
     ensures ok { IfOk result (λ count. Reads (R.remaining input.old) (R.remaining input.new)
         count room.new) }
@@ -128,8 +128,8 @@ pub(crate) fn read_some<R: Read>(input: &mut R, room: &mut [u8]) -> Result<usize
 fn write_once<W: Write>(
     output: &mut W,
     bytes: &[u8],
-    before: Option<Refusal>,
-) -> Result<usize, Refusal>
+    before: Option<RefusedCall>,
+) -> Result<usize, RefusedCall>
     requires { IfSome before IsPassing }
     ensures ok { IfOk result (λ count. (0 < count) × (count ≤ length bytes.now)
         × Appends (W.contents output.old) (W.contents output.new) (take count bytes.now)) }
@@ -145,7 +145,7 @@ fn write_once<W: Write>(
 }
 
 /// Puts some of the bytes out: how many.
-pub(crate) fn write_some<W: Write>(output: &mut W, bytes: &[u8]) -> Result<usize, Refusal>
+pub(crate) fn write_some<W: Write>(output: &mut W, bytes: &[u8]) -> Result<usize, RefusedCall>
     ensures ok { IfOk result (λ count. (0 < count) × (count ≤ length bytes.now)
         × Appends (W.contents output.old) (W.contents output.new) (take count bytes.now)) }
     ensures err { OnErr result (Appends (W.contents output.old) (W.contents output.new)
@@ -167,7 +167,7 @@ pub(crate) fn write_some<W: Write>(output: &mut W, bytes: &[u8]) -> Result<usize
 }
 
 /// One flush.
-fn flush_once<W: Write>(output: &mut W, before: Option<Refusal>) -> Result<(), Refusal>
+fn flush_once<W: Write>(output: &mut W, before: Option<RefusedCall>) -> Result<(), RefusedCall>
     requires { IfSome before IsPassing }
     ensures keeps { Appends (W.contents output.old) (W.contents output.new) [] }
     ensures calls { IfErr result (λ refused. refused.calls ≡ calls_of before + 1) }
@@ -179,7 +179,7 @@ fn flush_once<W: Write>(output: &mut W, before: Option<Refusal>) -> Result<(), R
 }
 
 /// Leaves none of the bytes in a buffer of the writer's.
-pub(crate) fn flush<W: Write>(output: &mut W) -> Result<(), Refusal>
+pub(crate) fn flush<W: Write>(output: &mut W) -> Result<(), RefusedCall>
     ensures keeps { Appends (W.contents output.old) (W.contents output.new) [] }
     ensures last { IfErr result IsFinal }
 {

@@ -4,7 +4,7 @@ ghost use Rattle.cb_serve.specs.Endings.{becomes_of_server, becomes_of_shelf, li
 ghost use Rattle.cb_serve.specs.Endings.{round_status, status_of};
 ghost use Rattle.cb_serve.specs.declared.fault.RoundFault.TheVariants.{Memory};
 
-use crate::calls::Refusal;
+use crate::calls::RefusedCall;
 use cb_server::ServerFault;
 use cb_shelf::ShelfFault;
 use std::alloc::AllocError;
@@ -21,9 +21,9 @@ pub enum RoundFault {
     /// No number is left for a frame.
     Exhausted,
     /// The input couldn't be read: a read was refused.
-    Input(Refusal),
+    Input(RefusedCall),
     /// The output couldn't be written: a write or a flush was refused.
-    Output(Refusal),
+    Output(RefusedCall),
     /// Memory was refused.
     Memory,
 }

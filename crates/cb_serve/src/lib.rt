@@ -17,7 +17,7 @@ mod serving;
 mod taking;
 
 pub use announcing::announce;
-pub use calls::Refusal;
+pub use calls::RefusedCall;
 pub use fault::{RoundFault, ServeFault};
 pub use printing::print_served;
 pub use serving::{Served, serve};

@@ -6,7 +6,7 @@ ghost use Rattle.cb_frame.specs.Grammar.{Fits};
 ghost use Rattle.cb_frame.specs.Spelling.{spelling};
 ghost use Rattle.cb_serve.specs.Calls.{IsFinal};
 
-use crate::calls::{Refusal, flush, write_some};
+use crate::calls::{RefusedCall, flush, write_some};
 use cb_frame::{Frame, encode};
 use cb_page::Limits;
 use std::alloc::{AllocError, Global};
@@ -33,7 +33,7 @@ pub(crate) fn append_frames(
 
 /// Puts bytes out, and leaves none of them in a buffer of the writer's. If that is refused, the
 /// first ones of them went out.
-pub(crate) fn put_out<W: Write>(output: &mut W, bytes: &[u8]) -> Result<(), Refusal>
+pub(crate) fn put_out<W: Write>(output: &mut W, bytes: &[u8]) -> Result<(), RefusedCall>
     ensures ok { OnOk result
         (Appends (W.contents output.old) (W.contents output.new) bytes.now) }
     ensures err { OnErr result ((n : ℕ)

@@ -35,7 +35,7 @@ use std::io::{Read, Write};
 
 /// The bytes of a service, whose memory each round uses again.
 #[derive(Drop)]
-pub(crate) struct Desk {
+pub(crate) struct Buffers {
     /// The bytes that came and aren't taken yet: less than a whole piece, between two rounds.
     pub(crate) pending: Vec<u8>,
     /// What is to go out.
@@ -96,34 +96,34 @@ fn drop_front(bytes: &mut Vec<u8>, count: usize)
 fn answer<S: Alter, W: Write>(
     alloc: Global,
     server: &mut Server,
-    desk: &mut Desk,
+    buffers: &mut Buffers,
     shelf: &mut Shelf<S>,
     life: &mut Life,
     output: &mut W,
 ) -> Result<Taken, RoundFault>
     requires { KnowsBelow (server_of server.old) life.old.below }
-    ensures ok { IfOk result (λ taken. Answered server.old desk.old desk.new taken server.new
+    ensures ok { IfOk result (λ taken. Answered server.old buffers.old buffers.new taken server.new
         (W.contents output.old) (W.contents output.new)) }
     ensures room { OnOk result (KeepsRoom S.Store (server_of server.new) life.old life.new
         shelf.old.conn shelf.new.conn) }
     ensures err { IfErr result (λ fault. StopsWithin S.Store fault server.old
-        desk.old.pending.items life.old shelf.old.conn shelf.new.conn
+        buffers.old.pending.items life.old shelf.old.conn shelf.new.conn
         (W.contents output.old) (W.contents output.new)) }
     ensures cause { IfErr result StopsBehind }
     ensures limits { shelf.new.limits ≡ shelf.old.limits }
 {
-    desk.said.clear();
+    buffers.said.clear();
     let taken = take_all(
         alloc,
         server,
         life.end(),
-        desk.pending.as_slice(),
-        &mut desk.said,
+        buffers.pending.as_slice(),
+        &mut buffers.said,
     )?;
-    drop_front(&mut desk.pending, taken.used);
-    desk.passed_over = desk.passed_over.saturating_add(taken.passed_over as u64);
+    drop_front(&mut buffers.pending, taken.used);
+    buffers.passed_over = buffers.passed_over.saturating_add(taken.passed_over as u64);
     keep_room(server, shelf, life)?;
-    match put_out(output, desk.said.as_slice()) {
+    match put_out(output, buffers.said.as_slice()) {
         Ok(()) => Ok(taken),
         Err(error) => Err(RoundFault::Output(error)),
     }
@@ -205,7 +205,7 @@ fn commit<S: Alter, W: Write>(
 pub(crate) fn round<S: Alter, R: Read, W: Write>(
     alloc: Global,
     server: &mut Server,
-    desk: &mut Desk,
+    buffers: &mut Buffers,
     room: &mut [u8],
     shelf: &mut Shelf<S>,
     life: &mut Life,
@@ -216,23 +216,23 @@ pub(crate) fn round<S: Alter, R: Read, W: Write>(
     requires limits { shelf.old.limits ≡ server.old.limits }
     requires known { KnowsBelow (server_of server.old) life.old.below }
     ensures ok { IfOk result (λ end. EndsRound S.Store server.old.limits end
-        (standing S.Store server.old desk.old shelf.old.conn)
-        (standing S.Store server.new desk.new shelf.new.conn) life.old life.new
+        (standing S.Store server.old buffers.old shelf.old.conn)
+        (standing S.Store server.new buffers.new shelf.new.conn) life.old life.new
         (R.remaining input.old) (R.remaining input.new)
         (W.contents output.old) (W.contents output.new)) }
     ensures err { IfErr result (λ fault. StopsRound S.Store server.old.limits fault
-        (standing S.Store server.old desk.old shelf.old.conn) life.old shelf.new.conn
+        (standing S.Store server.old buffers.old shelf.old.conn) life.old shelf.new.conn
         (R.remaining input.old) (R.remaining input.new)
         (W.contents output.old) (W.contents output.new)) }
     ensures shelf { shelf.new.limits ≡ shelf.old.limits }
     ensures server { OnOk result (server.new.limits ≡ server.old.limits) }
     ensures known { OnOk result (KnowsBelow (server_of server.new) life.new.below) }
 {
-    if !read_more(input, room, &mut desk.pending)? {
+    if !read_more(input, room, &mut buffers.pending)? {
         return Ok(RoundEnd::Ended);
     }
-    let taken = answer(alloc, server, desk, shelf, life, output)?;
-    commit(alloc, server, shelf, &mut desk.said, output)?;
+    let taken = answer(alloc, server, buffers, shelf, life, output)?;
+    commit(alloc, server, shelf, &mut buffers.said, output)?;
     if taken.ends {
         return Ok(RoundEnd::NoFrame);
     }

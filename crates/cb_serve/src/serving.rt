@@ -7,7 +7,7 @@ ghost use Rattle.cb_serve.specs.Parts.{standing};
 ghost use Rattle.cb_serve.specs.Serving.{HoldsStore, IsServed, Serves};
 
 use crate::fault::{RoundFault, ServeFault};
-use crate::round::{Desk, RoundEnd, round};
+use crate::round::{Buffers, RoundEnd, round};
 use cb_commit::Store;
 use cb_page::{Incarnation, Limits};
 use cb_server::Server;
@@ -44,7 +44,7 @@ impl Served {
 fn serve_rounds<S: Alter, R: Read, W: Write>(
     alloc: Global,
     server: &mut Server,
-    desk: &mut Desk,
+    buffers: &mut Buffers,
     room: &mut [u8],
     shelf: &mut Shelf<S>,
     life: &mut Life,
@@ -53,22 +53,22 @@ fn serve_rounds<S: Alter, R: Read, W: Write>(
 ) -> Result<(), ServeFault>
     requires room { 0 < length room.old }
     requires limits { shelf.old.limits ≡ server.old.limits }
-    requires empty { desk.old.pending.items ≡ [] }
+    requires empty { buffers.old.pending.items ≡ [] }
     requires known { KnowsBelow (server_of server.old) life.old.below }
     ensures serves { Serves S.Store server.old.limits result
-        (standing S.Store server.old desk.old shelf.old.conn) life.old shelf.new.conn
+        (standing S.Store server.old buffers.old shelf.old.conn) life.old shelf.new.conn
         (R.remaining input.old) (R.remaining input.new)
         (W.contents output.old) (W.contents output.new) }
     ensures limits { shelf.new.limits ≡ shelf.old.limits }
 {
     for _count in 0..u64::MAX {
-        let end = match round(alloc, server, desk, room, shelf, life, input, output) {
+        let end = match round(alloc, server, buffers, room, shelf, life, input, output) {
             Ok(end) => end,
             Err(fault) => return Err(ServeFault::Round(fault)),
         };
         match end {
             RoundEnd::NoFrame => return Err(ServeFault::NoFrame),
-            RoundEnd::Ended => return ended(desk.pending.as_slice()),
+            RoundEnd::Ended => return ended(buffers.pending.as_slice()),
             RoundEnd::GoesOn => {}
         }
     }
@@ -95,8 +95,8 @@ fn ended(pending: &[u8]) -> Result<(), ServeFault>
 ///
 /// It ends with the input, or for one of these causes. The input goes on with a header that no
 /// frame has, or ends within a frame. A read, a write or a flush was refused
-/// ([`Refusal`](crate::Refusal)), and not because a signal interrupted it. After something was
-/// read, the tables refused, no number was left, or memory was refused. Or 2^64 - 1 rounds were
+/// ([`RefusedCall`](crate::RefusedCall)), and not because a signal interrupted it. After something
+/// was read, the tables refused, no number was left, or memory was refused. Or 2^64 - 1 rounds were
 /// done. Each round reads something.
 ///
 /// The shelf's tables have to hold the store, as a load of them says; each round writes over it.
@@ -121,7 +121,7 @@ pub fn serve<S: Alter, R: Read, W: Write>(
     match begin(alloc, limits, store, life.floor()) {
         Err(AllocError) => Served::refused(RoundFault::Memory),
         Ok((mut server, mut room)) => {
-            let mut desk = Desk {
+            let mut buffers = Buffers {
                 pending: Vec::new(alloc),
                 said: Vec::new(alloc),
                 passed_over: 0,
@@ -129,7 +129,7 @@ pub fn serve<S: Alter, R: Read, W: Write>(
             let ending = serve_rounds(
                 alloc,
                 &mut server,
-                &mut desk,
+                &mut buffers,
                 room.as_mut_slice(),
                 shelf,
                 &mut life,
@@ -137,7 +137,7 @@ pub fn serve<S: Alter, R: Read, W: Write>(
                 output,
             );
             Served {
-                passed_over: desk.passed_over,
+                passed_over: buffers.passed_over,
                 ending,
             }
         }

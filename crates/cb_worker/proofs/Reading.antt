@@ -74,8 +74,8 @@ after_read_is v page r h = rw (r, h) refl
 pub shown_hits : (w : WorkerState) (page : ℕ) → shows_copy w page ≡ true → reads_here w.client page ≡ may_hit w page
 shown_hits w page s = rw s refl
 
-pub touches : (w : WorkerState) (page : ℕ) → shows_copy w page ≡ true → with_client w (after_read_here w.client page) ≡ after_hit w page
-touches w page s = go (reads_here w.client page) refl
+pub read_is_hit : (w : WorkerState) (page : ℕ) → shows_copy w page ≡ true → with_client w (after_read_here w.client page) ≡ after_hit w page
+read_is_hit w page s = go (reads_here w.client page) refl
   where
     go : (b : Bool) → reads_here w.client page ≡ b → with_client w (after_read_here w.client page) ≡ after_hit w page
     go true r = ap (with_client w) (rw r refl) ∙ reads w page (sym (shown_hits w page s) ∙ r)

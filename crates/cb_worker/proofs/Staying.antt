@@ -261,8 +261,8 @@ hit_still w page = go (may_hit w page) refl
     go true e = by_moves w (after_hit w page) (record { move = ReadAtHand page; worker = after_hit w page } ∷ []) (hit_same w page) ((e, refl), refl)
     go false e = same w (after_hit w page) (rw e refl)
 
-pub touched_still : (old new : WorkerState) (page : ℕ) → new ≡ after_hit old page → IsStill old new
-touched_still old new page e = rw e (hit_still old page)
+pub read_here_still : (old new : WorkerState) (page : ℕ) → new ≡ after_hit old page → IsStill old new
+read_here_still old new page e = rw e (hit_still old page)
 
 -- a call by which nothing but the client and what it said changes
 called_move : (old new : WorkerState) (call : Call) (word : table.AnswerWord) (messages : List Message) (history : List Operation → List Operation) → Calls old.client call word messages history new.client

@@ -103,8 +103,8 @@ impl<Q: Chooser> Worker<Q> {
 
     /// Reads the page in the open transaction, if it may without the office. Returns whether it
     /// did.
-    fn touch(&mut self, page: PageNo) -> bool
-        ensures touched { result ≡ may_hit self.old page }
+    fn read_here(&mut self, page: PageNo) -> bool
+        ensures here { result ≡ may_hit self.old page }
         ensures after { self.new ≡ after_hit self.old page }
     {
         if !self.shows_copy(page) {
@@ -121,7 +121,7 @@ impl<Q: Chooser> Worker<Q> {
             (λ worker. worker ≡ after_hit self.old page)) }
         ensures hits { Hits self.old page (option_copied result) }
     {
-        if self.touch(page) {
+        if self.read_here(page) {
             self.client.peek(page)
         } else {
             None

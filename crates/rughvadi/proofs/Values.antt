@@ -1,4 +1,4 @@
--- The machine values of a `Loose` and of a `Held`. Assumes `Logic`.
+-- The machine values of a `Loose` and of a `RawBox`. Assumes `Logic`.
 use Rattle.std.proofs.Common.{lit<, ◌≡◌, ℕ, List, [], ◌∷◌, ◌++◌, refl, subst}
 use mathlib.Core.Bool.{Bool, true, false, ◌&&◌}
 use lib.Dec.{T}
@@ -26,7 +26,7 @@ use Rattle.core.proofs.cell.Inside.{Good, one}
 use Rattle.std_alloc.specs.Box.Ownership.{box_owns}
 use Rattle.std_alloc.proofs.ResultValues.{and_tt}
 use Rattle.rughvadi.specs.contracts.loose.Loose as loose
-use Rattle.rughvadi.specs.contracts.held.Held as held
+use Rattle.rughvadi.specs.contracts.held.RawBox as held
 use Rattle.rughvadi.specs.Slot.{owned_if}
 use Rattle.cb_handle.specs.contracts.object.Object as object
 use Rattle.std.specs.contracts.alloc.Global as heap

@@ -17,28 +17,28 @@ use std::mem::replace;
 /// A box of an object as its pointer, or no box. Only the prover knows which object it is.
 #[repr(C)]
 #[derive(Drop)]
-pub struct Held {
+pub struct RawBox {
     at: *mut u8,
     alloc: Global,
     pub ghost live: { Bool },
     pub ghost value: { Object },
 }
 
-impl Model for Held {
+impl Model for RawBox {
     ghost also_owns = { λ h. owned_if h.live
         (box_owns (ghosts.dealloc_token h.alloc) the_row h.at h.value) };
 }
 
 // Nobody else has the object, and each of its parts may go to another thread.
-unsafe impl Send for Held {}
+unsafe impl Send for RawBox {}
 
-impl Held {
-    pub(crate) fn of(from: Loose<Object, Global>) -> Held
+impl RawBox {
+    pub(crate) fn of(from: Loose<Object, Global>) -> RawBox
         ensures value { result.value ≡ from.value }
         ensures live { result.live ≡ true }
     {
         let Loose { at, alloc } = from;
-        Held {
+        RawBox {
             at: at as *mut u8,
             alloc,
         }
@@ -48,17 +48,17 @@ impl Held {
         requires { self.live ≡ true }
         ensures { result.value ≡ self.value }
     {
-        let Held { at, alloc } = self;
+        let RawBox { at, alloc } = self;
         Loose {
             at: at as *mut Object,
             alloc,
         }
     }
 
-    pub(crate) fn none(alloc: Global) -> Held
+    pub(crate) fn none(alloc: Global) -> RawBox
         ensures { result.live ≡ false }
     {
-        Held {
+        RawBox {
             at: std::ptr::null_mut(),
             alloc,
         }
@@ -70,7 +70,7 @@ impl Held {
 #[derive(Drop)]
 pub struct Handle {
     pub live: bool,
-    pub held: Held,
+    pub held: RawBox,
     ghost tied: { held.live ≡ live },
 }
 
@@ -81,7 +81,7 @@ impl Handle {
     {
         Handle {
             live: true,
-            held: Held::of(Loose::of(b)),
+            held: RawBox::of(Loose::of(b)),
         }
     }
 
@@ -95,7 +95,7 @@ impl Handle {
             self,
             Handle {
                 live: false,
-                held: Held::none(alloc),
+                held: RawBox::none(alloc),
             },
         );
         if was.live {

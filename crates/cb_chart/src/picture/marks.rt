@@ -1,7 +1,7 @@
 //! What clients and the server do, as marks in their lanes.
 
 use crate::picture::layout::{Layout, SERVER, small};
-use crate::{Chart, Ending, Mark};
+use crate::{Chart, Mark, TransactionEnd};
 use cb_client::Outcome;
 use cb_console::{call_name, only_byte};
 use cb_page::ClientNo;
@@ -223,7 +223,7 @@ fn put_diamond<O: Write>(out: &mut O, x: u32, y: u32) -> io::Result<()> {
 fn put_ending<O: Write>(
     out: &mut O,
     layout: &Layout,
-    ending: &Ending,
+    ending: &TransactionEnd,
     event: u16,
 ) -> io::Result<()> {
     let lane = layout.client(ending.client);

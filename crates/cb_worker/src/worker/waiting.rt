@@ -174,7 +174,7 @@ impl<Q: Chooser> Worker<Q> {
         ensures still { IsStill self.old self.new }
         ensures refused { IfErr result (RefusesFetch self.old self.new page) }
     {
-        if self.touch(page) {
+        if self.read_here(page) {
             return Ok(true);
         }
         self.needs_transaction()?;
@@ -531,7 +531,7 @@ impl<Q: Chooser> Worker<Q> {
                 None
             }
             Awaited::Page(page) => {
-                if self.touch(*page) {
+                if self.read_here(*page) {
                     return Some(Came::There);
                 }
                 self.aborted()

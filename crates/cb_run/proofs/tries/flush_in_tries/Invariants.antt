@@ -14,4 +14,4 @@ invariant-loop g l =
     × (l.shelf.limits ≡ l.fn.shelf.limits) × OnErr l.stopped (Tries g.S.Store l.fn.shelf.limits l.fn.shelf.conn l.shelf.conn)
     × OnOk l.stopped (WritesAtLast g.S.Store l.fn.shelf.limits l.fn.shelf.conn l.shelf.conn)
     × Survives (state g.S.Store l.fn.shelf.conn) (state g.S.Store l.shelf.conn) (MadeAtLast g.S.Store l.fn.shelf.limits l.fn.shelf.conn)
-    × IfOk l.stopped (λ over. over.office ≡ l.desk.office.ref_ptr)
+    × IfOk l.stopped (λ over. over.office ≡ l.lent.office.ref_ptr)

@@ -6,11 +6,11 @@ use Rattle.cb_worker.proofs.Reading.{hits, peeked, same_bytes}
 use Rattle.cb_worker.specs.Workers.{WorkerState, may_hit}
 use Rattle.cb_worker.proofs.worker.Worker.hit.Goals as goal
 
-pub returns-then-touch : goal.returns-then-touch
-returns-then-touch g c =
-    let may : may_hit c.args.self.now c.args.page ≡ true = sym c.if-touch.ensures.touched in
+pub returns-then-read_here : goal.returns-then-read_here
+returns-then-read_here g c =
+    let may : may_hit c.args.self.now c.args.page ≡ true = sym c.if-read_here.ensures.here in
     let bytes : option_copied c.peek.result ≡ content_at c.args.self.now.client.copies c.args.page =
-    peeked c.self.inside.client c.args.page (option_copied c.peek.result) c.peek.ensures ∙ ap (λ (w : WorkerState). content_at w.client.copies c.args.page) (c.self.view_is ∙ c.touch.ensures.after) ∙ same_bytes c.args.self.now c.args.page may in (
-      (refl, λ x. tt, c.self.view_is ∙ c.touch.ensures.after),
+    peeked c.self.inside.client c.args.page (option_copied c.peek.result) c.peek.ensures ∙ ap (λ (w : WorkerState). content_at w.client.copies c.args.page) (c.self.view_is ∙ c.read_here.ensures.after) ∙ same_bytes c.args.self.now c.args.page may in (
+      (refl, λ x. tt, c.self.view_is ∙ c.read_here.ensures.after),
       record { ends = tt; hits = hits c.args.self.now c.args.page (option_copied c.peek.result) may bytes },
     )

@@ -23,10 +23,10 @@ use Rattle.std.proofs.alloc.Global.TheLaws as heap_laws
 use Rattle.std.specs.contracts.impls.GlobalAllocator.TheImpl.{ghosts}
 use Rattle.rughvadi.proofs.Values.{both, Loose, loose_good, loose_in, loose_out, held_in, held_out, R₀, Z₀, HeldRow, al₀, none_in, none_good}
 use Rattle.cb_handle.specs.declared.object.Object.TheVariants as variant
-use Rattle.rughvadi.specs.contracts.held.Held.none.{ended, clauses}
-use Rattle.rughvadi.specs.contracts.held.Held.none.Key.{name as #self}
-use Rattle.rughvadi.proofs.held.Held.none.Statement.{statement}
-use Rattle.rughvadi.proofs.held.Held.none.Code as code
+use Rattle.rughvadi.specs.contracts.held.RawBox.none.{ended, clauses}
+use Rattle.rughvadi.specs.contracts.held.RawBox.none.Key.{name as #self}
+use Rattle.rughvadi.proofs.held.RawBox.none.Statement.{statement}
+use Rattle.rughvadi.proofs.held.RawBox.none.Code as code
 
 pub none_spec : {M : Type 1} → statement M
 none_spec 𝓤 𝓛 𝓜 𝓡 wired =

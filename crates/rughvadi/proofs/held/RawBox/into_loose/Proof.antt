@@ -22,10 +22,10 @@ use Rattle.std.specs.contracts.alloc.Global as heap
 use Rattle.std.proofs.alloc.Global.TheLaws as heap_laws
 use Rattle.std.specs.contracts.impls.GlobalAllocator.TheImpl.{ghosts}
 use Rattle.rughvadi.proofs.Values.{both, Loose, loose_good, loose_in, loose_out, held_in, held_out, R₀, Z₀, HeldRow}
-use Rattle.rughvadi.specs.contracts.held.Held.into_loose.{ended, clauses}
-use Rattle.rughvadi.specs.contracts.held.Held.into_loose.Key.{name as #self}
-use Rattle.rughvadi.proofs.held.Held.into_loose.Statement.{statement}
-use Rattle.rughvadi.proofs.held.Held.into_loose.Code as code
+use Rattle.rughvadi.specs.contracts.held.RawBox.into_loose.{ended, clauses}
+use Rattle.rughvadi.specs.contracts.held.RawBox.into_loose.Key.{name as #self}
+use Rattle.rughvadi.proofs.held.RawBox.into_loose.Statement.{statement}
+use Rattle.rughvadi.proofs.held.RawBox.into_loose.Code as code
 
 pub into_loose_spec : {M : Type 1} → statement M
 into_loose_spec 𝓤 𝓛 𝓜 𝓡 wired =

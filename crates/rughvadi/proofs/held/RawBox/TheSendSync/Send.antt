@@ -12,7 +12,7 @@ use Rattle.std.specs.declared.alloc.Global.{Global}
 use Rattle.std_alloc.proofs.SendSync.{lies, quiet}
 use Rattle.std_alloc.specs.Box.Ownership.{box_owns}
 use Rattle.rughvadi.specs.Slot.{owned_if}
-use Rattle.rughvadi.specs.contracts.held.Held as held
+use Rattle.rughvadi.specs.contracts.held.RawBox as held
 use Rattle.cb_handle.proofs.object.Object.TheSendSync as sends
 use Rattle.cb_handle.specs.contracts.object.Object as object
 use Rattle.cb_handle.specs.declared.object.Object.{Object}
