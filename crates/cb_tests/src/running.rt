@@ -3,6 +3,7 @@
 
 mod alone;
 mod balky;
+mod chosen;
 mod clocks;
 mod commits;
 mod contention;
@@ -16,6 +17,7 @@ mod hurried;
 mod late;
 mod lines;
 mod looking;
+mod numbers;
 mod other_limits;
 mod pacing;
 mod refusals;

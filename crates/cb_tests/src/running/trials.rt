@@ -10,6 +10,7 @@ use crate::running::flags::{Flags, Moment, follows, wakes};
 use crate::running::gates::Counts;
 use crate::running::giving_up::drops_and_gives_up;
 use crate::running::late::{comes_too_late, is_skipped, is_skipped_beside};
+use crate::running::numbers::are_answered_their_own;
 use crate::running::other_limits::is_refused_with_others;
 use crate::running::pacing::keeps_pace;
 use crate::running::refusals::{Refusal, is_refused_at_first};
@@ -43,6 +44,8 @@ pub(crate) enum Trial<'a> {
     Woken(Moment, Flags),
     /// Four threads commit at once.
     Shared,
+    /// Two workers commit side by side, and are each answered a number.
+    Numbered,
     /// A client reads, writes, commits and leaves.
     Alone,
     /// A client drops its transaction, restarts, and gives up.
@@ -114,6 +117,7 @@ fn comes_with<R: Wait + Threads + Clock + Sync, S: Alter>(
         Trial::Flagged(_, moments) => follows(rt, alloc, office, moments),
         Trial::Woken(moment, flags) => wakes(rt, alloc, office, moment, flags),
         Trial::Shared => are_shared(rt, alloc, office),
+        Trial::Numbered => are_answered_their_own(rt, alloc, limits, office, shelf),
         Trial::Alone => works::<TwoQ, R, S>(rt, alloc, limits, office, shelf, true),
         Trial::GivingUp => works::<TwoQ, R, S>(rt, alloc, limits, office, shelf, false),
         Trial::Late => comes_too_late::<TwoQ, R>(rt, alloc, limits, office),

@@ -91,7 +91,7 @@ impl<Q: Chooser> Worker<Q> {
         }
     }
 
-    /// The client begins another incarnation, and is welcomed.
+    /// The client begins another incarnation, with a chooser that `Q::make` makes, and is welcomed.
     ///
     /// The worker comes back with each fault, as it was. If only the Welcome didn't come, it is in
     /// the new incarnation.
