@@ -16,7 +16,6 @@ mod giving_up;
 mod hurried;
 mod late;
 mod lines;
-mod looking;
 mod numbers;
 mod other_limits;
 mod pacing;

@@ -2,7 +2,6 @@
 use crate::running::disks::{Faults, both};
 use crate::running::flags::greet;
 use crate::running::gates::{Act, Counts, Guarded, Plan};
-use crate::running::looking::Looking;
 use crate::running::tickets::narrow;
 use crate::running::trials::Trial;
 use crate::running::work::{Deed, Outcome, Work, opening};
@@ -57,8 +56,7 @@ impl Watch for Told {
     fn waits(&mut self) {}
 }
 
-/// Notes which batches were told of, and after how many commits the flusher waits. Behind each the
-/// next write is refused, where that is to be.
+/// Notes which batches were told of, and after how many commits the flusher waits.
 #[derive(Drop)]
 struct Waited<'a> {
     told: Told,
@@ -72,7 +70,6 @@ impl Watch for Waited<'_> {
 
     fn flushed(&mut self, number: CommitNo) {
         self.told.flushed(number);
-        self.counts.refuse_next();
     }
 
     fn waits(&mut self) {
@@ -217,15 +214,14 @@ pub(crate) fn came_in<R: Threads + Wait + Clock + Sync, S: Alter>(
     let mut out = Vec::new(alloc);
     let mut err = Vec::new(alloc);
     let gate = Guarded { rt, office, counts };
-    let looking = Looking::new(rt, office, counts);
     let jobs = counts.plan.jobs;
     shelf.limit_steps(counts.plan.steps);
     let ran = run_on_watched(
-        &looking, alloc, limits, office, shelf, jobs, &gate, &mut watch, &mut out, &mut err,
+        rt, alloc, limits, office, shelf, jobs, &gate, &mut watch, &mut out, &mut err,
     );
-    counts.left.store(0, Ordering::SeqCst);
     let answered = counts.answered.load(Ordering::SeqCst);
-    let whole = is_whole(&office.lock(rt), watch.told.last) && counts.is_well(answered);
+    let odd = counts.odd.load(Ordering::SeqCst);
+    let whole = is_whole(&office.lock(rt), watch.told.last) && odd == 0 && counts.turns.is_well();
     if !are_fair(office.lock(rt).window(), answered) {
         return Came::Wrong;
     }
@@ -303,28 +299,11 @@ pub(crate) fn open_plan(clients: u16, jobs: u32, steps: u64) -> Plan {
     }
 }
 
-/// Whether so many clients do so many jobs each, and the history's entries, which are looked at
-/// before they are forgotten, have both pages read and written.
-fn counts_up<R: Threads + Wait + Clock + Sync>(
-    rt: &R,
-    alloc: Global,
-    clients: u16,
-    jobs: u32,
-) -> bool {
-    let act = Act::Looked;
-    let plan = Plan {
-        clients,
-        jobs,
-        steps: 0,
-        act,
-    };
-    run_to_end(rt, alloc, plan) == Came::Done(u64::from(clients) * u64::from(jobs))
-}
-
-/// The stored run of `cb_play` does the same over a file.
+/// The stored run of `cb_play` has 100 jobs for each client, over a file.
 #[test]
 fn counters(rt: HostRuntime) {
-    assert!(rt; counts_up(&rt, rt.alloc(), 4, 100) && counts_up(&rt, rt.alloc(), 1, 0));
+    assert!(rt; run_to_end(&rt, rt.alloc(), open_plan(4, 25, 0)) == Came::Done(100));
+    assert!(rt; run_to_end(&rt, rt.alloc(), open_plan(1, 0, 0)) == Came::Done(0));
 }
 
 /// No write gets through: three tries, then the office is halted.
