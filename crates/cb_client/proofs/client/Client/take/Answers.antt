@@ -15,7 +15,7 @@ returns-in-Said-clause-fits g c = rw (← c.self.view_is)
 pub returns-in-Ok-clause-fits : goal.returns-in-Ok-clause-fits
 returns-in-Ok-clause-fits g c =
     let takes : Takes (client_in c.self.inside.core) (body_of c.args.frame.now.body)
-        (messages_of c.in-Ok.said.items) (client_in c.bring_in.new.self) = search rules in
+    (messages_of c.in-Ok.said.items) (client_in c.bring_in.new.self) = search rules in
     rw (← c.self.view_is)
     (body_frames_fit _ _ c.args.frame.now.body c.in-Ok.said.items c.self.invariant
     (rw (← c.self.view_is) at c.requires.body) takes)
