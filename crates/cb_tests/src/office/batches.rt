@@ -22,6 +22,9 @@ fn sevens(alloc: Global, limits: &Limits) -> Result<Frame, AllocError> {
 /// The batch of a first commit over zeros of these limits.
 fn first_batch(alloc: Global, limits: &Limits) -> Option<Batch> {
     let store = Store::zeros(alloc, limits).ok()?;
+    if !store.is_of(limits) {
+        return None;
+    }
     let mut commits = Commits::new(alloc, limits, store).ok()?;
     let frame = sevens(alloc, limits).ok()?;
     if !apply(limits, &mut commits, frame).ok()? {
