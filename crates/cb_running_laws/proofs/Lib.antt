@@ -94,7 +94,7 @@
 -- (`read_in_another_incarnation`), `run_served` (`round_begins_behind_a_whole_piece`).
 --
 -- `services_are_lives` has the steps of a round between those of the tables.
--- What stands after each step is `Good` (`proofs/Services`): the tables have the rows of
+-- What stands after each step is `Good` (`proofs/ServicesFollow`): the tables have the rows of
 -- `store_on_disk` by the server that was told; the present server has the same commits up to the
 -- number on disk; whom the told one knows is below the row; and each Done that was said, or is to
 -- be, is of a commit up to that number. By the file of `proofs`:
@@ -137,5 +137,5 @@ pub mod Clients
 pub mod ProcessesStand
 pub mod ServerCommits
 pub mod BatchStore
-pub mod Services
+pub mod ServicesFollow
 pub mod RoundSteps

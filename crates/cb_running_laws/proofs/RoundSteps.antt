@@ -29,7 +29,7 @@ use Rattle.cb_serve.specs.Living.MakesRoom.{had, made}
 use Rattle.cb_serve.specs.Rounds.{Round, Standing, Writes, reached}
 use Rattle.cb_serve.specs.Serving.{AreRounds}
 use Rattle.cb_running_laws.proofs.Keeping.{clean_before}
-use Rattle.cb_running_laws.proofs.Services.{nothing_more, regroup, services_restart}
+use Rattle.cb_running_laws.proofs.ServicesFollow.{nothing_more, regroup, services_restart}
 use Rattle.cb_running_laws.specs.ServedFile.{Course, IsAt, MakesStep, MakesSteps, RoundsAreSteps}
 use Rattle.cb_running_laws.specs.ServedFile.{Step, after_step, after_steps, said_in, said_once}
 use Rattle.cb_running_laws.specs.ServedFile as step

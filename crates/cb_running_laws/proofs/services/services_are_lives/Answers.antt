@@ -1,6 +1,6 @@
 -- Goals of `services_are_lives`.
 use Rattle.cb_running_laws.proofs.RoundSteps.{are_steps, lives_follow}
-use Rattle.cb_running_laws.proofs.Services.{dones_stand, services_restart}
+use Rattle.cb_running_laws.proofs.ServicesFollow.{dones_stand, services_restart}
 use Rattle.cb_running_laws.proofs.services.services_are_lives.Goals as goal
 
 pub returns : goal.returns
