@@ -21,11 +21,11 @@ fn is_copy(due: CallbackDue, number: u32, grant: GrantNo) -> bool {
 }
 
 /// Whether so many copies are given back, of rising pages.
-fn rise(dues: Vec<CallbackDue>, grant: GrantNo, count: u32) -> bool {
-    let mut dues = dues.into_iter();
+fn rise(mut dues: Vec<CallbackDue>, grant: GrantNo, count: u32) -> bool {
+    dues.reverse();
     let mut number = 0u32;
     let mut rises = true;
-    while let Some(due) = dues.next() {
+    while let Some(due) = dues.pop() {
         rises = is_copy(due, number, grant) && rises;
         number = number.wrapping_add(1);
     }

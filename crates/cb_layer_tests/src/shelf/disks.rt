@@ -82,20 +82,12 @@ pub(crate) fn files_that_stop(alloc: Global, calls: Calls) -> Files<Fuse<Memory>
     }
 }
 
-/// The log is copied into the file before each transaction, and few pages that were read are kept,
+/// The log is copied into the file before each transaction, and two pages that were read are kept,
 /// so that the file is called throughout.
 const OFTEN: Options = Options {
-    cache_pages: 16,
+    cache_pages: 2,
     spill_pages: 2000,
     checkpoint_frames: 1,
-    seed: 1,
-};
-
-/// The file is called as little as may be.
-const SELDOM: Options = Options {
-    cache_pages: 32,
-    spill_pages: 2000,
-    checkpoint_frames: 64,
     seed: 1,
 };
 
@@ -103,21 +95,14 @@ const SELDOM: Options = Options {
 fn connect(
     alloc: Global,
     files: Files<Fuse<Memory>>,
-    options: Options,
 ) -> Result<Connection<FileStore<Fuse<Memory>>>, Files<Fuse<Memory>>> {
     if !files.may_be_used() {
         return Err(files);
     }
-    match Connection::open_files(alloc, files, options) {
+    match Connection::open_files(alloc, files, OFTEN) {
         Ok(conn) => Ok(conn),
         Err((_, left)) => Err(left.into_files()),
     }
-}
-
-/// A new database, whose disks don't stop; `None` where it can't be opened.
-pub(crate) fn new_database(alloc: Global) -> Option<Connection<FileStore<Fuse<Memory>>>> {
-    let files = files_that_stop(alloc, (u64::MAX, u64::MAX));
-    connect(alloc, files, SELDOM).ok()
 }
 
 /// The store of a connection. It has no clause: of a store over files the prover takes half a
@@ -132,7 +117,7 @@ fn session_over(
     files: Files<Fuse<Memory>>,
     session: Session<'_>,
 ) -> (Outcome, Files<Fuse<Memory>>) {
-    match connect(alloc, files, OFTEN) {
+    match connect(alloc, files) {
         Ok(conn) => {
             let (outcome, conn) = over(alloc, conn, session);
             (outcome, store_of(conn).close())
@@ -151,33 +136,6 @@ pub(crate) fn run_session(
     files.log.crash();
     files.db.crash();
     (outcome, files)
-}
-
-/// Whether a session that came so far was stopped before its shelf was to be opened; where its open
-/// doesn't count either, in that.
-fn is_before(reached: Outcome, opens: bool) -> bool {
-    match reached {
-        Outcome::Nothing | Outcome::Database => true,
-        Outcome::Refused(fault) => opens && fault == ShelfFault::Store,
-        _ => false,
-    }
-}
-
-/// Behind how many calls of a disk a session is stopped first: those that stop it before its shelf
-/// is to be opened, or in its open where that doesn't count either, are passed over by eights but
-/// for the last ones.
-pub(crate) fn first_stop(alloc: Global, session: Session<'_>, is_log: bool, opens: bool) -> u64 {
-    let mut first = 0u64;
-    for _eight in 0..200 {
-        let next = first.saturating_add(8);
-        let files = files_that_stop(alloc, calls_of(is_log, next));
-        let (reached, _) = run_session(alloc, files, session);
-        if !is_before(reached, opens) {
-            return first;
-        }
-        first = next;
-    }
-    first
 }
 
 /// Whether the texts run.

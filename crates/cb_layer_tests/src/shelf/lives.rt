@@ -1,8 +1,6 @@
 //! Lives of a server over a shelf: with which floors they begin, and what stops of the disks leave.
 
-use crate::shelf::disks::{
-    Calls, Deed, Outcome, Session, calls_of, files_that_stop, first_stop, run_session,
-};
+use crate::shelf::disks::{Calls, Deed, Outcome, Session, calls_of, files_that_stop, run_session};
 use crate::shelf::reopened::outcomes;
 use crate::shelf::shapes::{NEW, OLD};
 use cb_page::Limits;
@@ -144,13 +142,12 @@ fn stopped(alloc: Global, calls: Calls, session: Session<'_>, first: u64) -> Opt
 }
 
 /// Whether each stop of a disk leaves a floor as it may, some come as a life begins and some as it
-/// gets room, and at last none comes. Of those in the shelf's open the last ones are looked at.
+/// gets room, and at last none comes.
 fn survives_stops(alloc: Global, limits: &Limits, text: &str, first: u64, is_log: bool) -> bool {
     let session = living(limits, text, first.wrapping_add(HELLO));
-    let start = first_stop(alloc, session, is_log, true);
     let mut stops = Stops::default();
-    for more in 0..1_000u64 {
-        let calls = calls_of(is_log, start.saturating_add(more));
+    for count in 0..1_000 {
+        let calls = calls_of(is_log, count);
         match stopped(alloc, calls, session, first) {
             Some(Outcome::Lived(_, true)) => return stops.beginning > 0 && stops.raising > 0,
             Some(reached) => stops.count(reached),
@@ -160,22 +157,17 @@ fn survives_stops(alloc: Global, limits: &Limits, text: &str, first: u64, is_log
     false
 }
 
-/// As a life begins over new tables.
+/// As a life begins over new tables, over copied ones, and over those that kept no lives.
 #[test]
-fn disks_stop_as_first_lives_begin(rt: HostRuntime) -> Result<(), Fail> {
+fn disks_stop_as_lives_begin(rt: HostRuntime) -> Result<(), Fail> {
     let limits = Limits::new(1, 2, 16, 2, 1, 1)?;
-    for is_log in [true, false] {
-        assert!(rt; survives_stops(rt.alloc(), &limits, "", 1, is_log));
-    }
-    Ok(())
-}
-
-/// As a life begins over copied tables, and over those that kept no lives.
-#[test]
-fn disks_stop_as_later_lives_begin(rt: HostRuntime) -> Result<(), Fail> {
-    let limits = Limits::new(1, 2, 16, 2, 1, 1)?;
-    for (text, is_log) in [(OLD, true), (NEW, false)] {
-        assert!(rt; survives_stops(rt.alloc(), &limits, text, UNKEPT, is_log));
+    for (text, first, is_log) in [
+        ("", 1, true),
+        ("", 1, false),
+        (OLD, UNKEPT, true),
+        (NEW, UNKEPT, false),
+    ] {
+        assert!(rt; survives_stops(rt.alloc(), &limits, text, first, is_log));
     }
     Ok(())
 }

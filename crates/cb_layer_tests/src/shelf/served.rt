@@ -4,19 +4,15 @@
 ghost use Rattle.std.specs.Prelude.{◌≡◌};
 
 use crate::shelf::batches::{SEVENS, ZEROS};
-use crate::shelf::disks::{Held, held_by, new_database};
-use Piece::{
-    AskRead, AskWrite, Commit, CommitBegins, CommitEnds, Done, Granted, Hello, LateHello,
-    LaterHello, LaterRead, LaterWelcome, MayWrite, NoFrame, OtherHello, OtherWelcome,
-    SevensGranted, Unread, Welcome,
-};
+use crate::shelf::disks::{Held, held_by};
 use cb_page::Limits;
 use cb_serve::{print_served, serve};
 use cb_shelf::Shelf;
 use sqlite::{Alter, Connection};
 use std::alloc::{AllocError, Global};
 use std::io;
-use std::io::{ErrorKind, Read};
+use std::io::{ErrorKind, Read, Write};
+use std::test::Fail;
 
 /// Client 0 begins as incarnation 1, reads page 0 in transaction 1, asks to write it, and commits
 /// sevens.
@@ -34,14 +30,6 @@ static ASK_WRITE: [u8; 36] = [
 static COMMIT: [u8; 58] = [
     2, 6, 0, 0, 0, 0, 0, 0, 0, 0, 0, 1, 0, 0, 0, 42, 0, 0, 0, 0, 0, 0, 0, 1, 0, 1, 0, 0, 0, 0, 0,
     0, 0, 0, 0, 0, 0, 1, 0, 0, 0, 16, 7, 7, 7, 7, 7, 7, 7, 7, 7, 7, 7, 7, 7, 7, 7, 7,
-];
-
-/// The same in two pieces.
-static COMMIT_BEGINS: [u8; 20] = [2, 6, 0, 0, 0, 0, 0, 0, 0, 0, 0, 1, 0, 0, 0, 42, 0, 0, 0, 0];
-
-static COMMIT_ENDS: [u8; 38] = [
-    0, 0, 0, 1, 0, 1, 0, 0, 0, 0, 0, 0, 0, 0, 0, 0, 0, 1, 0, 0, 0, 16, 7, 7, 7, 7, 7, 7, 7, 7, 7,
-    7, 7, 7, 7, 7, 7, 7,
 ];
 
 /// Client 1 begins.
@@ -93,117 +81,27 @@ static UNREAD: [u8; 28] = [
 /// A header of version 3.
 static NO_FRAME: [u8; 16] = [3, 1, 0, 0, 0, 0, 0, 0, 0, 0, 0, 1, 0, 0, 0, 0];
 
-/// One of these.
-#[derive(Clone, Copy)]
-enum Piece {
-    Hello,
-    AskRead,
-    AskWrite,
-    Commit,
-    CommitBegins,
-    CommitEnds,
-    OtherHello,
-    LateHello,
-    LaterHello,
-    LaterRead,
-    Unread,
-    NoFrame,
-    Welcome,
-    Granted,
-    MayWrite,
-    Done,
-    OtherWelcome,
-    LaterWelcome,
-    SevensGranted,
-}
-
-/// Its bytes.
-fn bytes_of(piece: Piece) -> &'static [u8] {
-    match piece {
-        Hello => &HELLO,
-        AskRead => &ASK_READ,
-        AskWrite => &ASK_WRITE,
-        Commit => &COMMIT,
-        CommitBegins => &COMMIT_BEGINS,
-        CommitEnds => &COMMIT_ENDS,
-        OtherHello => &OTHER_HELLO,
-        LateHello => &LATE_HELLO,
-        LaterHello => &LATER_HELLO,
-        LaterRead => &LATER_READ,
-        Unread => &UNREAD,
-        NoFrame => &NO_FRAME,
-        Welcome => &WELCOME,
-        Granted => &GRANTED,
-        MayWrite => &MAY_WRITE,
-        Done => &DONE,
-        OtherWelcome => &OTHER_WELCOME,
-        LaterWelcome => &LATER_WELCOME,
-        SevensGranted => &SEVENS_GRANTED,
-    }
-}
-
-/// Some, one behind another.
-type Pieces = &'static [Piece];
-
-/// What a service is given, and what it is to do.
-#[derive(Clone, Copy)]
-struct Case {
-    /// By which error the first read is refused, if it is.
-    refusal: Option<ErrorKind>,
-    /// What comes at once, in three reads.
-    reads: [Pieces; 3],
-    /// So many bytes are lacking at the end of the first.
-    cut: usize,
-    /// So many bytes may be put out.
-    room: usize,
-    /// What is put out, as far as there is room.
-    pieces: Pieces,
-    /// What is printed at the end, and its status; none where the output was refused.
-    said: &'static str,
-    status: Option<u8>,
-    /// What the store holds then.
-    held: Held,
-}
-
-/// An input of three reads, before which one may be refused; those behind it read the bytes.
-#[derive(Drop)]
-struct Input<'a> {
-    refusal: Option<ErrorKind>,
-    reads: [&'a [u8]; 3],
-}
-
-impl Read for Input<'_> {
-    fn read(&mut self, buf: &mut [u8]) -> io::Result<usize> {
-        if let Some(kind) = self.refusal.take() {
-            return Err(io::Error::from(kind));
-        }
-        if !self.reads[0].is_empty() {
-            return self.reads[0].read(buf);
-        }
-        if !self.reads[1].is_empty() {
-            return self.reads[1].read(buf);
-        }
-        self.reads[2].read(buf)
-    }
-}
+/// How a service ended: what it said, its status (none where the output was refused), and what the
+/// store holds then.
+type Ending<'a> = (&'a str, Option<u8>, Held);
 
 /// The pieces, one after another.
-fn joined(alloc: Global, pieces: &[Piece]) -> Result<Vec<u8>, AllocError> {
+fn joined(alloc: Global, pieces: &[&[u8]]) -> Result<Vec<u8>, AllocError> {
     let mut all = Vec::new(alloc);
-    for &piece in pieces {
-        all.extend_from_slice(bytes_of(piece))?;
+    for piece in pieces {
+        all.extend_from_slice(piece)?;
     }
     Ok(all)
 }
 
-/// Whether a service over the store in a shelf ends as it should.
-fn ends_so<S: Alter>(
+/// Whether a service over the store in a shelf ends so.
+fn ends_so<S: Alter, R: Read, W: Write>(
     alloc: Global,
     limits: &Limits,
     shelf: &mut Shelf<S>,
-    input: &mut Input<'_>,
-    output: &mut &mut [u8],
-    case: &Case,
+    input: &mut R,
+    output: &mut W,
+    ending: Ending<'_>,
 ) -> bool
     requires { shelf.old.limits ≡ limits.now }
 {
@@ -216,324 +114,251 @@ fn ends_so<S: Alter>(
     let served = serve(alloc, limits, store, life, shelf, input, output);
     let mut said = Vec::new(alloc);
     let status = print_served(served, &mut said).ok();
-    let ends = said.as_slice() == case.said.as_bytes() && status == case.status;
+    let ends = said.as_slice() == ending.0.as_bytes() && status == ending.1;
     match shelf.load(alloc) {
-        Ok(store) => ends && held_by(limits, &store) == Some(case.held),
+        Ok(store) => ends && held_by(limits, &store) == Some(ending.2),
         Err(_) => false,
     }
 }
 
-/// Whether a service over the store in a database ends as it should; the database comes back.
-fn serves<S: Alter>(
+/// Whether a service over the store in a database ends so; the database comes back.
+fn serves<S: Alter, R: Read, W: Write>(
     alloc: Global,
     conn: Connection<S>,
-    input: &mut Input<'_>,
-    output: &mut &mut [u8],
-    case: &Case,
+    input: &mut R,
+    output: &mut W,
+    ending: Ending<'_>,
 ) -> (bool, Connection<S>) {
     let Ok(limits) = Limits::new(2, 2, 16, 2, 1, 1) else {
         return (false, conn);
     };
     match Shelf::open(alloc, conn, &limits) {
         Ok(mut shelf) => {
-            let ends = ends_so(alloc, &limits, &mut shelf, input, output, case);
+            let ends = ends_so(alloc, &limits, &mut shelf, input, output, ending);
             (ends, shelf.close())
         }
         Err((_, conn)) => (false, conn),
     }
 }
 
-/// Whether a service over the store in a database puts out what it should, and ends as it should;
-/// the database comes back.
-fn answers<S: Alter + Drop>(
+/// Whether a service over a new store puts these pieces out, and ends so.
+fn puts_out<R: Read>(
     alloc: Global,
-    conn: Connection<S>,
-    case: &Case,
-) -> Result<(bool, Connection<S>), AllocError> {
-    let first = joined(alloc, case.reads[0])?;
-    let second = joined(alloc, case.reads[1])?;
-    let third = joined(alloc, case.reads[2])?;
-    let wanted = joined(alloc, case.pieces)?;
-    let mut bytes = vec![in alloc; 255u8; case.room.min(200)]?;
-    let mut input = Input {
-        refusal: case.refusal,
-        reads: [
-            &first[..first.len().saturating_sub(case.cut)],
-            second.as_slice(),
-            third.as_slice(),
-        ],
-    };
-    let mut output = bytes.as_mut_slice();
-    let (ends, conn) = serves(alloc, conn, &mut input, &mut output, case);
-    let left = output.len();
-    let put = &bytes[..bytes.len().saturating_sub(left)];
-    Ok((ends && put == &wanted[..wanted.len().min(case.room)], conn))
-}
-
-/// Whether a service over a database does, and behind it another one.
-fn both_answer<S: Alter + Drop>(
-    alloc: Global,
-    conn: Connection<S>,
-    first: &Case,
-    second: &Case,
+    input: &mut R,
+    pieces: &[&[u8]],
+    ending: Ending<'_>,
 ) -> Result<bool, AllocError> {
-    let (began, conn) = answers(alloc, conn, first)?;
-    let (went_on, _conn) = answers(alloc, conn, second)?;
-    Ok(began && went_on)
+    let wanted = joined(alloc, pieces)?;
+    let mut output = Vec::new(alloc);
+    let conn = Connection::open_in_memory(alloc)?;
+    let (ends, _conn) = serves(alloc, conn, input, &mut output, ending);
+    Ok(ends && output.as_slice() == wanted.as_slice())
 }
 
-/// Whether a service over a database does.
-fn one_answers<S: Alter + Drop>(
+/// Whether one of these pieces, which are read at once, does.
+fn answers(
     alloc: Global,
-    conn: Connection<S>,
-    case: &Case,
+    input: &[&[u8]],
+    pieces: &[&[u8]],
+    ending: Ending<'_>,
 ) -> Result<bool, AllocError> {
-    let (answered, _conn) = answers(alloc, conn, case)?;
-    Ok(answered)
+    let bytes = joined(alloc, input)?;
+    let mut reader = bytes.as_slice();
+    puts_out(alloc, &mut reader, pieces, ending)
 }
-
-/// Whether a service over a new database does.
-fn is_served(alloc: Global, case: &Case) -> bool {
-    match new_database(alloc) {
-        Some(conn) => one_answers(alloc, conn, case) == Ok(true),
-        None => false,
-    }
-}
-
-static ALL_AT_ONCE: Case = Case {
-    refusal: None,
-    reads: [&[Hello, AskRead, AskWrite, Commit, OtherHello], &[], &[]],
-    cut: 0,
-    room: 200,
-    pieces: &[Welcome, Granted, MayWrite, OtherWelcome, Done],
-    said: "",
-    status: Some(0),
-    held: (1, [(1, 7), (0, 0)]),
-};
 
 /// What was said of frames that were read at once goes out in their order, and then the Dones.
 #[test]
-fn dones_come_last(rt: HostRuntime) {
-    assert!(rt; is_served(rt.alloc(), &ALL_AT_ONCE));
+fn dones_come_last(rt: HostRuntime) -> Result<(), Fail> {
+    let input = [
+        HELLO.as_slice(),
+        ASK_READ.as_slice(),
+        ASK_WRITE.as_slice(),
+        COMMIT.as_slice(),
+        OTHER_HELLO.as_slice(),
+    ];
+    let pieces = [
+        WELCOME.as_slice(),
+        GRANTED.as_slice(),
+        MAY_WRITE.as_slice(),
+        OTHER_WELCOME.as_slice(),
+        DONE.as_slice(),
+    ];
+    assert!(rt; answers(rt.alloc(), &input, &pieces, ("", Some(0), SEVENS))?);
+    Ok(())
 }
-
-static IN_TWO_READS: Case = Case {
-    refusal: None,
-    reads: [
-        &[Hello, AskRead, AskWrite, CommitBegins],
-        &[CommitEnds],
-        &[OtherHello],
-    ],
-    cut: 0,
-    room: 200,
-    pieces: &[Welcome, Granted, MayWrite, Done, OtherWelcome],
-    said: "",
-    status: Some(0),
-    held: (1, [(1, 7), (0, 0)]),
-};
 
 /// A commit that comes in two reads is written at the second, and its Done goes out before the
 /// third is answered.
 #[test]
-fn frame_in_two_reads(rt: HostRuntime) {
-    assert!(rt; is_served(rt.alloc(), &IN_TWO_READS));
+fn frame_in_two_reads(rt: HostRuntime) -> Result<(), Fail> {
+    let alloc = rt.alloc();
+    let first = joined(alloc, &[&HELLO, &ASK_READ, &ASK_WRITE, &COMMIT[..20]])?;
+    let pieces = joined(
+        alloc,
+        &[&WELCOME, &GRANTED, &MAY_WRITE, &DONE, &OTHER_WELCOME],
+    )?;
+    let mut input = first
+        .as_slice()
+        .chain(&COMMIT[20..])
+        .chain(OTHER_HELLO.as_slice());
+    let ending = ("", Some(0), SEVENS);
+    assert!(rt; puts_out(alloc, &mut input, &[pieces.as_slice()], ending)?);
+    Ok(())
 }
-
-static UNREAD_FRAMES: Case = Case {
-    refusal: None,
-    reads: [&[Unread, Hello, Unread, AskRead], &[], &[]],
-    cut: 0,
-    room: 200,
-    pieces: &[Welcome, Granted],
-    said: "passed over 2\n",
-    status: Some(0),
-    held: (0, [(0, 0), (0, 0)]),
-};
 
 /// What can't be read is passed over, and counted.
 #[test]
-fn unread_frames(rt: HostRuntime) {
-    assert!(rt; is_served(rt.alloc(), &UNREAD_FRAMES));
+fn unread_frames(rt: HostRuntime) -> Result<(), Fail> {
+    let input = [
+        UNREAD.as_slice(),
+        HELLO.as_slice(),
+        UNREAD.as_slice(),
+        ASK_READ.as_slice(),
+    ];
+    let pieces = [WELCOME.as_slice(), GRANTED.as_slice()];
+    let ending = ("passed over 2\n", Some(0), ZEROS);
+    assert!(rt; answers(rt.alloc(), &input, &pieces, ending)?);
+    Ok(())
 }
-
-static WITHOUT_ROOM: Case = Case {
-    refusal: None,
-    reads: [&[Hello, LateHello, AskRead], &[], &[]],
-    cut: 0,
-    room: 200,
-    pieces: &[Welcome, Granted],
-    said: "",
-    status: Some(0),
-    held: (0, [(0, 0), (0, 0)]),
-};
 
 /// A Hello for which no life has room is let go, and its client's incarnation goes on.
 #[test]
-fn hello_without_room(rt: HostRuntime) {
-    assert!(rt; is_served(rt.alloc(), &WITHOUT_ROOM));
+fn hello_without_room(rt: HostRuntime) -> Result<(), Fail> {
+    let input = [HELLO.as_slice(), LATE_HELLO.as_slice(), ASK_READ.as_slice()];
+    let pieces = [WELCOME.as_slice(), GRANTED.as_slice()];
+    assert!(rt; answers(rt.alloc(), &input, &pieces, ("", Some(0), ZEROS))?);
+    Ok(())
 }
-
-static BEHIND_A_COMMIT: Case = Case {
-    refusal: None,
-    reads: [
-        &[Hello, AskRead, AskWrite, Commit, NoFrame, OtherHello],
-        &[],
-        &[],
-    ],
-    cut: 0,
-    room: 200,
-    pieces: &[Welcome, Granted, MayWrite, Done],
-    said: "input: no frame\n",
-    status: Some(3),
-    held: (1, [(1, 7), (0, 0)]),
-};
 
 /// A header that is none ends it: what came before is answered and written, and what comes behind
 /// it isn't.
 #[test]
-fn no_frame(rt: HostRuntime) {
-    assert!(rt; is_served(rt.alloc(), &BEHIND_A_COMMIT));
+fn no_frame(rt: HostRuntime) -> Result<(), Fail> {
+    let alloc = rt.alloc();
+    let before = joined(alloc, &[&HELLO, &ASK_READ, &ASK_WRITE, &COMMIT])?;
+    let input = [
+        before.as_slice(),
+        NO_FRAME.as_slice(),
+        OTHER_HELLO.as_slice(),
+    ];
+    let pieces = joined(alloc, &[&WELCOME, &GRANTED, &MAY_WRITE, &DONE])?;
+    let ending = ("input: no frame\n", Some(3), SEVENS);
+    assert!(rt; answers(alloc, &input, &[pieces.as_slice()], ending)?);
+    Ok(())
 }
 
-static CUT: Case = Case {
-    refusal: None,
-    reads: [&[Hello, AskRead, AskWrite, Commit], &[], &[]],
-    cut: 1,
-    room: 200,
-    pieces: &[Welcome, Granted, MayWrite],
-    said: "input: frame cut\n",
-    status: Some(3),
-    held: (0, [(0, 0), (0, 0)]),
-};
-
-/// Whether an input that ends within a commit, of which these bytes are lacking, is served so.
-fn are_cut(alloc: Global, cuts: &[usize]) -> bool {
-    for &cut in cuts {
-        if !is_served(alloc, &Case { cut, ..CUT }) {
-            return false;
-        }
-    }
-    true
-}
-
-/// An input that ends within a frame: what came before is answered, and the frame isn't taken. One,
-/// 15, 16 and 57 of its bytes come.
+/// An input that ends within a frame: what came before is answered, and the frame isn't taken.
 #[test]
-fn frame_cut(rt: HostRuntime) {
-    assert!(rt; are_cut(rt.alloc(), &[57, 43, 42, 1]));
+fn frame_cut(rt: HostRuntime) -> Result<(), Fail> {
+    let alloc = rt.alloc();
+    let before = joined(alloc, &[&HELLO, &ASK_READ, &ASK_WRITE])?;
+    let pieces = joined(alloc, &[&WELCOME, &GRANTED, &MAY_WRITE])?;
+    let ending = ("input: frame cut\n", Some(3), ZEROS);
+    for count in [1usize, 15, 16, 57] {
+        let input = [before.as_slice(), &COMMIT[..count.min(58)]];
+        assert!(rt; answers(alloc, &input, &[pieces.as_slice()], ending)?);
+    }
+    Ok(())
 }
 
-static REFUSED: Case = Case {
-    refusal: Some(ErrorKind::ConnectionReset),
-    reads: [&[Hello], &[], &[]],
-    cut: 0,
-    room: 200,
-    pieces: &[],
-    said: "input: cannot read\n",
-    status: Some(3),
-    held: (0, [(0, 0), (0, 0)]),
-};
+/// An input whose first read is refused, by an error of that kind; those behind it read the bytes.
+#[derive(Drop)]
+struct RefusesOnce<'a> {
+    kind: Option<ErrorKind>,
+    bytes: &'a [u8],
+}
 
-/// Whether a service ends so whose first read is refused by this error.
-fn is_refused(alloc: Global, kind: ErrorKind, said: &'static str, status: u8) -> bool {
-    let case = Case {
-        refusal: Some(kind),
-        said,
-        status: Some(status),
-        ..REFUSED
+impl Read for RefusesOnce<'_> {
+    fn read(&mut self, buf: &mut [u8]) -> io::Result<usize> {
+        if let Some(kind) = self.kind.take() {
+            return Err(io::Error::from(kind));
+        }
+        self.bytes.read(buf)
+    }
+}
+
+/// Whether a service whose first read is refused so puts these pieces out, and ends so.
+fn refused_once(
+    alloc: Global,
+    kind: ErrorKind,
+    pieces: &[&[u8]],
+    ending: Ending<'_>,
+) -> Result<bool, AllocError> {
+    let mut input = RefusesOnce {
+        kind: Some(kind),
+        bytes: HELLO.as_slice(),
     };
-    is_served(alloc, &case)
+    puts_out(alloc, &mut input, pieces, ending)
 }
-
-static INTERRUPTED: Case = Case {
-    refusal: Some(ErrorKind::Interrupted),
-    reads: [&[Hello], &[], &[]],
-    cut: 0,
-    room: 200,
-    pieces: &[Welcome],
-    said: "",
-    status: Some(0),
-    held: (0, [(0, 0), (0, 0)]),
-};
 
 /// A read that is refused ends the service, though the next one would give a frame. One that a
 /// signal interrupts is made again.
 #[test]
-fn input_refused_once(rt: HostRuntime) {
+fn input_refused_once(rt: HostRuntime) -> Result<(), Fail> {
     let alloc = rt.alloc();
-    assert!(rt; is_served(alloc, &REFUSED));
-    assert!(rt; is_refused(alloc, ErrorKind::WouldBlock, "input: cannot read\n", 3));
-    assert!(rt; is_refused(alloc, ErrorKind::OutOfMemory, "memory\n", 4));
-    assert!(rt; is_served(alloc, &INTERRUPTED));
+    let unread = ("input: cannot read\n", Some(3), ZEROS);
+    let unfit = ("memory\n", Some(4), ZEROS);
+    let pieces = [WELCOME.as_slice()];
+    assert!(rt; refused_once(alloc, ErrorKind::ConnectionReset, &[], unread)?);
+    assert!(rt; refused_once(alloc, ErrorKind::WouldBlock, &[], unread)?);
+    assert!(rt; refused_once(alloc, ErrorKind::OutOfMemory, &[], unfit)?);
+    assert!(rt; refused_once(alloc, ErrorKind::Interrupted, &pieces, ("", Some(0), ZEROS))?);
+    Ok(())
 }
 
-static LITTLE_ROOM: Case = Case {
-    refusal: None,
-    reads: [&[Hello, AskRead, AskWrite, Commit], &[], &[]],
-    cut: 0,
-    room: 0,
-    pieces: &[Welcome, Granted, MayWrite, Done],
-    said: "",
-    status: None,
-    held: (0, [(0, 0), (0, 0)]),
-};
-
-/// Whether an output with room for so many bytes gets the first of them, and this is held then.
-fn are_refused(alloc: Global, rooms: &[usize], held: Held) -> bool {
-    for &room in rooms {
-        let case = Case {
-            room,
-            held,
-            ..LITTLE_ROOM
-        };
-        if !is_served(alloc, &case) {
-            return false;
-        }
-    }
-    true
+/// Whether an output with room for some bytes alone gets the first of these, and it ends so.
+fn is_refused(
+    alloc: Global,
+    room: usize,
+    pieces: &[&[u8]],
+    held: Held,
+) -> Result<bool, AllocError> {
+    let input = joined(alloc, &[&HELLO, &ASK_READ, &ASK_WRITE, &COMMIT])?;
+    let wanted = joined(alloc, pieces)?;
+    let mut bytes = vec![in alloc; 255u8; room.min(200)]?;
+    let mut output = bytes.as_mut_slice();
+    let mut reader = input.as_slice();
+    let conn = Connection::open_in_memory(alloc)?;
+    let (ends, _conn) = serves(alloc, conn, &mut reader, &mut output, ("", None, held));
+    Ok(ends && wanted.as_slice().starts_with(bytes.as_slice()))
 }
 
 /// Where an answer is refused nothing is written; where a Done is, the commit is written before.
 #[test]
-fn output_refused(rt: HostRuntime) {
-    assert!(rt; are_refused(rt.alloc(), &[0, 20, 107], ZEROS));
-    assert!(rt; are_refused(rt.alloc(), &[108, 139], SEVENS));
+fn output_refused(rt: HostRuntime) -> Result<(), Fail> {
+    let pieces = [
+        WELCOME.as_slice(),
+        GRANTED.as_slice(),
+        MAY_WRITE.as_slice(),
+        DONE.as_slice(),
+    ];
+    assert!(rt; is_refused(rt.alloc(), 0, &pieces, ZEROS)?);
+    assert!(rt; is_refused(rt.alloc(), 20, &pieces, ZEROS)?);
+    assert!(rt; is_refused(rt.alloc(), 107, &pieces, ZEROS)?);
+    assert!(rt; is_refused(rt.alloc(), 108, &pieces, SEVENS)?);
+    assert!(rt; is_refused(rt.alloc(), 139, &pieces, SEVENS)?);
+    Ok(())
 }
 
-static FORMER: Case = Case {
-    refusal: None,
-    reads: [&[Hello, AskRead, AskWrite, Commit], &[], &[]],
-    cut: 0,
-    room: 200,
-    pieces: &[Welcome, Granted, MayWrite, Done],
-    said: "",
-    status: Some(0),
-    held: (1, [(1, 7), (0, 0)]),
-};
-
-/// An incarnation that the former service knew is ignored. One of its own life is granted what was
-/// committed.
-static LATER: Case = Case {
-    refusal: None,
-    reads: [&[Hello, AskRead, LaterHello, LaterRead], &[], &[]],
-    cut: 0,
-    room: 200,
-    pieces: &[LaterWelcome, SevensGranted],
-    said: "",
-    status: Some(0),
-    held: (1, [(1, 7), (0, 0)]),
-};
-
-/// Whether a service goes on over a new database where one ended.
-fn goes_on(alloc: Global) -> bool {
-    match new_database(alloc) {
-        Some(conn) => both_answer(alloc, conn, &FORMER, &LATER) == Ok(true),
-        None => false,
-    }
+/// Whether a service that goes on where one ended holds what the former committed, and ignores an
+/// incarnation that the former knew. One of its own life is granted what was committed.
+fn goes_on(alloc: Global) -> Result<bool, AllocError> {
+    let commits = joined(alloc, &[&HELLO, &ASK_READ, &ASK_WRITE, &COMMIT])?;
+    let reads = joined(alloc, &[&HELLO, &ASK_READ, &LATER_HELLO, &LATER_READ])?;
+    let wanted = joined(alloc, &[&LATER_WELCOME, &SEVENS_GRANTED])?;
+    let ending = ("", Some(0), SEVENS);
+    let (mut former, mut output) = (Vec::new(alloc), Vec::new(alloc));
+    let (mut first, mut second) = (commits.as_slice(), reads.as_slice());
+    let conn = Connection::open_in_memory(alloc)?;
+    let (began, conn) = serves(alloc, conn, &mut first, &mut former, ending);
+    let (went_on, _conn) = serves(alloc, conn, &mut second, &mut output, ending);
+    Ok(began && went_on && output.as_slice() == wanted.as_slice())
 }
 
 /// At the end of the input all is written, and the next service begins with it.
 #[test]
-fn end_writes_all(rt: HostRuntime) {
-    assert!(rt; goes_on(rt.alloc()));
+fn end_writes_all(rt: HostRuntime) -> Result<(), Fail> {
+    assert!(rt; goes_on(rt.alloc())?);
+    Ok(())
 }

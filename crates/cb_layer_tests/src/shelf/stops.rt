@@ -2,8 +2,7 @@
 
 use crate::shelf::batches::{Writing, ZEROS};
 use crate::shelf::disks::{
-    Calls, Deed, Held, Outcome, Session, calls_of, files_that_stop, first_stop, reading,
-    run_session,
+    Deed, Held, Outcome, Session, calls_of, files_that_stop, reading, run_session,
 };
 use crate::shelf::shapes::{OLD, OLD_STORE};
 use cb_page::Limits;
@@ -12,12 +11,14 @@ use std::alloc::Global;
 use std::test::Fail;
 
 /// Whether that may be read after a crash, where the disk stopped amid a session over tables of the
-/// store before, in which a shelf was to be opened and a commit to be written.
+/// store before, in which a commit was to be written.
 fn may_be_left(reached: Outcome, left: Outcome, before: Held, after: Held) -> bool {
     let Outcome::Holds(Some(held)) = left else {
         return false;
     };
+    let zeros = ZEROS;
     match reached {
+        Outcome::Nothing | Outcome::Database => held == before || held == zeros,
         Outcome::Refused(ShelfFault::Store) => held == before,
         Outcome::Written(false) => held == before || held == after,
         Outcome::Written(true) => held == after,
@@ -25,9 +26,10 @@ fn may_be_left(reached: Outcome, left: Outcome, before: Held, after: Held) -> bo
     }
 }
 
-/// How many sessions stopped in a shelf's open, and in the write.
+/// How many sessions stopped before a shelf was opened, in its open, and in the write.
 #[derive(Clone, Copy, Default)]
 struct Stops {
+    before: u32,
     opening: u32,
     writing: u32,
 }
@@ -36,46 +38,30 @@ impl Stops {
     /// One more, where it came so far.
     fn count(&mut self, reached: Outcome) {
         match reached {
+            Outcome::Nothing | Outcome::Database => self.before = self.before.wrapping_add(1),
             Outcome::Refused(_) => self.opening = self.opening.wrapping_add(1),
-            Outcome::Written(_) => self.writing = self.writing.wrapping_add(1),
-            _ => {}
+            _ => self.writing = self.writing.wrapping_add(1),
         }
     }
 }
 
-/// What a session came to that one call of a disk more stops. `None` where a shelf was to be
-/// opened, and the store that is there then isn't whole.
-fn stopped(
-    alloc: Global,
-    session: Session<'_>,
-    stores: [Held; 2],
-    calls: Calls,
-) -> Option<Outcome> {
-    let [before, after] = stores;
-    let (reached, files) = run_session(alloc, files_that_stop(alloc, calls), session);
-    match reached {
-        Outcome::Nothing | Outcome::Database => Some(reached),
-        _ => {
-            let (left, _) = run_session(alloc, files, reading(session.limits, ""));
-            may_be_left(reached, left, before, after).then_some(reached)
-        }
-    }
-}
-
-/// The stops of sessions of which each is stopped by one call more of a disk, from the last ones
-/// before a shelf is opened up to the one that isn't stopped. `None` where a store that was there
-/// after a stop wasn't whole.
+/// The stops of sessions of which each is stopped by one call more of a disk, up to the one that
+/// isn't. `None` where a store that was there after a stop wasn't whole.
 fn count_stops(
     alloc: Global,
     session: Session<'_>,
     stores: [Held; 2],
     is_log: bool,
 ) -> Option<Stops> {
-    let first = first_stop(alloc, session, is_log, false);
+    let [before, after] = stores;
     let mut stops = Stops::default();
-    for more in 0..1_000u64 {
-        let calls = calls_of(is_log, first.saturating_add(more));
-        let reached = stopped(alloc, session, stores, calls)?;
+    for count in 0..1_000 {
+        let files = files_that_stop(alloc, calls_of(is_log, count));
+        let (reached, files) = run_session(alloc, files, session);
+        let (left, _) = run_session(alloc, files, reading(session.limits, ""));
+        if !may_be_left(reached, left, before, after) {
+            return None;
+        }
         if reached == Outcome::Written(true) {
             return Some(stops);
         }
@@ -103,7 +89,7 @@ fn stop_at_each_call<'a>(
 
 /// Whether some stopped in the open, and some in the write.
 fn are_some(stops: Option<Stops>) -> bool {
-    stops.is_some_and(|stops| stops.opening > 0 && stops.writing > 0)
+    stops.is_some_and(|stops| stops.before > 0 && stops.opening > 0 && stops.writing > 0)
 }
 
 /// A table that isn't of a shelf.
