@@ -40,7 +40,8 @@ pub(crate) const NONE: Faults<'static> = Faults {
 };
 
 /// Room for all pages of the tables, which an open clears; and a short log, since a sync of a disk
-/// in memory copies it. Without proofs more of either takes most of the tests' time.
+/// in memory copies it. Without proofs more of either takes most of the tests' time. With 16 frames
+/// in place of 64 `third_refusal_is_the_last` fails.
 const SHORT: Options = Options {
     cache_pages: 32,
     spill_pages: 2000,
