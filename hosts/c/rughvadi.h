@@ -84,12 +84,12 @@ enum {
   RUGHVADI_NO_TRANSACTION = 2,   /* none is open: none was begun, or it was aborted */
   RUGHVADI_TRANSACTION_OPEN = 3, /* one is, or it is committing */
   RUGHVADI_COMMITTING = 4,
-  RUGHVADI_WAITING = 5,          /* an ask has no answer yet: hand frames in until it has */
+  RUGHVADI_WAITING = 5,          /* an ask has no answer yet: go on handing frames in */
   RUGHVADI_PAGE_RANGE = 6,       /* there is no such page */
   RUGHVADI_NOT_READ = 7,         /* the transaction has not read the page */
   RUGHVADI_NOT_HERE = 8,         /* the page's bytes left the pool: read it again */
   RUGHVADI_NOT_WRITABLE = 9,     /* want it first */
-  RUGHVADI_WRONG_LENGTH = 10,    /* a page has other than that many bytes */
+  RUGHVADI_WRONG_LENGTH = 10,    /* the bytes aren't as long as a page */
   RUGHVADI_POOL_FULL = 11,       /* every page in the pool is being written: use more slots */
   /* a client's or a server's */
   RUGHVADI_EXHAUSTED = 12,       /* no transaction, grant or commit number is left (2^62 - 1) */
@@ -113,7 +113,7 @@ enum {
   RUGHVADI_OTHER_KIND = 0x301,   /* the handle is empty, or what it holds has no such call */
   RUGHVADI_UNFETCHED = 0x302,    /* first fetch the frames that wait, by rughvadi_next */
   RUGHVADI_NOTHING = 0x303,      /* nothing to fetch, to write or to show */
-  RUGHVADI_ROOM = 0x304,         /* the buffer hasn't the length that is needed */
+  RUGHVADI_ROOM = 0x304,         /* the buffer doesn't have the length that is needed */
   RUGHVADI_RANGE = 0x305,        /* a number is out of range */
   RUGHVADI_HELD = 0x306          /* the handle holds an object already */
 };
@@ -174,7 +174,7 @@ static inline size_t rughvadi_frame_most(const rughvadi_limits *limits) {
 uint32_t rughvadi_version(void);
 
 /* Writes the meaning of a fault's number to the room, in English, without a 0 behind it. *size is
- * how many bytes the text has, at most 64; it is told if the room is too short, too.
+ * how many bytes the text has, at most 64, also if the room is too short.
  * ROOM: the room is too short; nothing is written to it. */
 uint32_t rughvadi_fault_text(uint32_t fault, uint8_t *room, size_t len, size_t *size);
 
@@ -205,7 +205,7 @@ uint32_t rughvadi_next(rughvadi_handle *h, uint8_t *room, size_t len, size_t *si
  * OTHER_KIND, UNFETCHED, MEMORY. */
 uint32_t rughvadi_again(rughvadi_handle *h);
 
-/* Frees what the handle holds, and leaves it empty. The handle may be empty before. */
+/* Frees what the handle holds, and leaves it empty. The handle may be empty already. */
 void rughvadi_free(rughvadi_handle *h);
 
 /* ---- a server ---- */
@@ -265,7 +265,7 @@ uint32_t rughvadi_server_flushed(rughvadi_handle *h, uint64_t number);
 
 /* Drops the commits up to this number, which are on disk, from the server's memory. Call it after
  * rughvadi_server_flushed with the same number, or now and then; without it the memory grows with
- * each commit. Its cost grows with what it drops alone.
+ * each commit. Its cost depends on what it drops, and on nothing else.
  * OTHER_KIND. RANGE: no commit has this number, or not all up to it are on disk. */
 uint32_t rughvadi_server_forget(rughvadi_handle *h, uint64_t number);
 
@@ -279,7 +279,7 @@ uint32_t rughvadi_server_leave(rughvadi_handle *h, uint32_t client);
 /* Tells the incarnation with which the client may greet next. It is one more than the greater of
  * two: the last incarnation that this server heard of, and the floor of its life. A new server
  * without a life has heard of none, so the host has to keep the number.
- * OTHER_KIND. RANGE: as above. */
+ * OTHER_KIND. RANGE: there is no such client, or no incarnation is left. */
 uint32_t rughvadi_server_incarnation(const rughvadi_handle *h, uint32_t client,
                                      uint64_t *incarnation);
 

@@ -17,10 +17,10 @@ enum { RUGHVADI_TOKEN = 32 };
 enum {
   RUGHVADI_CONNECT_SYSTEM = RUGHVADI_LINK_SYSTEM, /* a system call failed: errno says how */
   RUGHVADI_CONNECT_CLOSED = RUGHVADI_LINK_CLOSED, /* the connection ended before the answer */
-  RUGHVADI_CONNECT_GREETING = 0x501, /* it is no gateway of this version, or the name is too long */
+  RUGHVADI_CONNECT_GREETING = 0x501, /* no gateway of this version, or the name is too long */
   RUGHVADI_CONNECT_TOKEN = 0x502,    /* no client has this token */
   RUGHVADI_CONNECT_STORE = 0x503,    /* no store has this name */
-  RUGHVADI_CONNECT_CLIENT = 0x504,   /* the store hasn't so many clients */
+  RUGHVADI_CONNECT_CLIENT = 0x504,   /* the store has no client with the token's number */
   RUGHVADI_CONNECT_DOWN = 0x505      /* the store isn't served at the moment: try again later */
 };
 
@@ -42,7 +42,7 @@ uint32_t rughvadi_token_read(const char *path, uint32_t client, uint8_t token[RU
  * CONNECT_SYSTEM; with ETIMEDOUT if an IP address or a path is silent for five seconds. */
 uint32_t rughvadi_dial(const char *address, int *socket);
 
-/* The same, within so many milliseconds for each IP address; below 0: as long as the system waits.
+/* The same, with connect_ms milliseconds for each IP address; below 0: as long as the system waits.
  * The look-up of a name has no bound. */
 uint32_t rughvadi_dial_within(const char *address, int connect_ms, int *socket);
 
@@ -51,11 +51,11 @@ uint32_t rughvadi_dial_within(const char *address, int connect_ms, int *socket);
 uint32_t rughvadi_greet(int socket, const uint8_t token[RUGHVADI_TOKEN], const char *store,
                         rughvadi_seat *seat);
 
-/* The same, within so many milliseconds; below 0: forever. */
+/* The same, within greeting_ms milliseconds; below 0: forever. */
 uint32_t rughvadi_greet_within(int socket, const uint8_t token[RUGHVADI_TOKEN], const char *store,
                                int greeting_ms, rughvadi_seat *seat);
 
-/* All in one: dials, greets and opens a link, which closes the socket. Several addresses are
+/* Dials, greets and opens a link, which owns the socket and closes it. Several addresses are
  * separated by commas, and tried in turn from the first on. The next one is tried if nobody answers
  * in time, the connection ends, or the store isn't served there (CONNECT_DOWN, LINK_SILENT). The
  * last fault is returned. After each fault the link is empty.
@@ -74,8 +74,8 @@ typedef struct {
   uint32_t reserved[4];
 } rughvadi_gateways;
 
-/* The same, each address once, beginning behind the one that was tried last. Once a link is gone,
- * the program therefore goes on at the next address. */
+/* As rughvadi_link_connect, but it begins with the address behind the one that was tried last, and
+ * tries each once. A program whose link is gone therefore goes on at the next address. */
 uint32_t rughvadi_link_connect_next(rughvadi_link *link, rughvadi_gateways *gateways,
                                     const uint8_t token[RUGHVADI_TOKEN], const char *store,
                                     rughvadi_seat *seat);

@@ -34,7 +34,7 @@ typedef struct {
   bool gone;   /* the connection is of no use any more */
   int wait_ms; /* how long it waits for an answer before it resends what may be lost; below 0:
                   forever */
-  int tries;   /* how often it waits so, before it returns RUGHVADI_LINK_SILENT */
+  int tries;   /* how often it waits that long before it returns RUGHVADI_LINK_SILENT */
   size_t page_size;
   uint8_t *out; /* the frame that is being sent */
   size_t out_size;
@@ -43,7 +43,7 @@ typedef struct {
   bool owns;      /* the socket is closed with the link */
   bool is_silent; /* the transaction has sent nothing yet */
   uint64_t draws; /* the numbers from which pauses are drawn */
-  uint64_t late;  /* so many bytes of `out` are a Drop that goes before all that is sent next */
+  uint64_t late;  /* bytes of a Drop at the front of `out`, which goes out before anything else */
   uint64_t reserved[3];
 } rughvadi_link;
 
@@ -94,8 +94,8 @@ uint32_t rughvadi_link_run(rughvadi_link *link, rughvadi_link_job job, void *con
 
 /* How long rughvadi_link_run_within goes on. A field that is 0 sets no bound. */
 typedef struct {
-  uint32_t tries;   /* so many tries at most */
-  uint32_t time_ms; /* no try but the first begins later than so many milliseconds after the call */
+  uint32_t tries;   /* the most tries */
+  uint32_t time_ms; /* no try but the first begins later after the call than this */
 } rughvadi_link_bound;
 
 /* The same within a bound. RUGHVADI_LINK_ABORTED if it is reached; nothing is committed then. */

@@ -191,8 +191,8 @@ static PyMethodDef methods[] = {
      "told."},
     {"forget", server_forget, METH_O,
      "forget($self, number, /)\n--\n\n"
-     "Drops the commits up to this number, which are on disk, from memory, which grows with\n"
-     "each commit otherwise."},
+     "Drops the commits up to this number, which are on disk, from memory. Without this call\n"
+     "memory grows with each commit."},
     {"leave", server_leave, METH_O,
      "leave($self, client, /)\n--\n\n"
      "Tells the server that a client went away and won't come back in its present incarnation."},

@@ -9,10 +9,10 @@ current, until the server restarts or is told that the client left.
         page[0] += 1
         t[5] = page
 
-`connect` makes one to a store of a gateway. `rughvadi.aio` has the same two for asyncio.
+`connect` makes a link to a store of a gateway. `rughvadi.aio` has both for asyncio.
 
-A call of `Server` or `Client` keeps the interpreter's lock, so that no two run at once. An
-interpreter that runs without its lock takes it as this package is imported.
+A call of `Server` or `Client` keeps the interpreter's lock, so that no two run at once. A
+free-threaded interpreter turns its lock on as this package is imported.
 """
 
 from ._connect import connect

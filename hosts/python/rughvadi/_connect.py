@@ -16,8 +16,8 @@ def connect(
     address: str, token: bytes, store: str = "main", time_out: Optional[float] = 1.0
 ) -> Link:
     """A link to a store of a gateway. The gateway listens at HOST:PORT or on a Unix socket, whose
-    path has a `/` in it. What may be lost is sent again after each time-out of so many seconds;
-    None waits forever, for the gateway too."""
+    path has a `/` in it. If an answer doesn't come within `time_out` seconds, what may be lost is
+    sent again. None waits forever, for the gateway too."""
     patience = None if time_out is None else PATIENCE * time_out
     connected = _dial(address, patience)
     try:

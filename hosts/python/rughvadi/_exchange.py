@@ -114,7 +114,7 @@ class Exchange:
 
     def _leave(self) -> None:
         """Drops the transaction that an exception ends, if one is open and the link isn't gone.
-        That exception is raised, even if the connection fails besides."""
+        That exception is raised even if the connection fails as well."""
         if not self._wire.gone and self.client.status in (Status.OPEN, Status.WAITING):
             with contextlib.suppress(OSError):
                 self._drop()

@@ -55,7 +55,7 @@ class Fault(Error):
     def __init__(self, number: int, text: str = "") -> None:
         super().__init__(number, text)
         self.number = _NUMBERS.get(number, number)
-        """Which fault it is, a `FaultNumber`; a plain number where that has no name for it."""
+        """A `FaultNumber`, or a plain number if that has no name for it."""
 
     def __str__(self) -> str:
         return str(self.args[1]) or f"fault {int(self.number)}"
@@ -70,7 +70,7 @@ class TransactionOpen(Fault):
 
 
 class Waiting(Fault):
-    """An ask has no answer yet: hand frames in until it has."""
+    """An ask has no answer yet: go on handing frames in."""
 
 
 class NotHere(Fault):

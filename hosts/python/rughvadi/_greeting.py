@@ -15,7 +15,7 @@ ANSWER_SIZE = _ANSWER.size
 _REFUSALS = {
     2: "no client has this token",
     3: "no store has this name",
-    4: "the store hasn't so many clients",
+    4: "the store has no client with the token's number",
     5: "the store isn't served at the moment",
 }
 
@@ -28,7 +28,7 @@ class Refused(Error):
         self.is_down = answer == 5
 
     def __str__(self) -> str:
-        return _REFUSALS.get(self.args[0], "it is no gateway of this version")
+        return _REFUSALS.get(self.args[0], "no gateway of this version answered")
 
 
 def read_token(path: Union[str, Path], client: int) -> bytes:
@@ -44,7 +44,7 @@ def host_and_port(address: str) -> tuple[str, int]:
     """The parts of HOST:PORT; a host with colons stands in brackets."""
     host, _, port = address.rpartition(":")
     if not host or not port.isdecimal():
-        raise ValueError(f"{address!r} is no HOST:PORT, nor a path with a '/' in it")
+        raise ValueError(f"{address!r} is neither HOST:PORT nor a path with a '/' in it")
     if host.startswith("[") and host.endswith("]"):
         host = host[1:-1]
     return host, int(port)

@@ -58,9 +58,9 @@ class Link(Exchange):
         seconds: Optional[float] = None,
     ) -> T:
         """Does the job in a transaction and commits it, and begins again if it is aborted. Before
-        each further try it waits, for at most 0.5 ms at first and up to twice as long each time, to
-        100 ms, and serves others meanwhile. `Aborted` after so many tries, or if the next one would
-        begin after so many seconds; without a bound it goes on."""
+        each further try it waits, and serves others meanwhile. The wait is at most 0.5 ms at first,
+        and may be twice as long each time, up to 100 ms. `Aborted` after that many tries, or if the
+        next one would begin after that many seconds; without a bound it goes on."""
         further = waits(tries, seconds)
         while True:
             try:
@@ -73,8 +73,8 @@ class Link(Exchange):
             self._serve_for(wait)
 
     def serve(self) -> bool:
-        """Takes what the socket gives next. Others wait for the pages that the client holds until
-        it has answered. False if the socket's time-out passed first."""
+        """Takes what the socket gives next, and answers. Others may wait for that, since they want
+        pages that the client holds. False if the socket's time-out passed first."""
         self._check()
         self._say()
         return self._receive_within(self._socket.gettimeout())
@@ -134,7 +134,7 @@ class Link(Exchange):
             self._wait_while(Status.WAITING)
 
     def _begin(self) -> None:
-        # The commit of one that an exception ended is awaited first.
+        # If an exception ended the wait for a commit, that commit is awaited first.
         self._check()
         if self.client.status is Status.COMMITTING:
             self._wait_while(Status.COMMITTING)

@@ -8,16 +8,16 @@ import time
 from typing import Iterator, Optional
 
 FIRST = 0.0005
-"""The most seconds that it waits before the second try; before each further one twice as long."""
+"""The longest wait before the second try, in seconds. It doubles before each further one."""
 MOST = 0.1
-"""But never longer than so many seconds."""
+"""The longest wait of all, in seconds."""
 
 
 def waits(tries: Optional[int], seconds: Optional[float]) -> Iterator[float]:
-    """The wait before each further try, each drawn anew. They end after so many tries in all, or
-    once a try would begin more than so many seconds from now."""
+    """The wait before each further try, each drawn anew. They end after that many tries in all, or
+    once a try would begin more than that many seconds from now."""
     if tries is not None and tries < 1:
-        raise ValueError("there is at least one try")
+        raise ValueError("tries has to be at least 1")
     end = None if seconds is None else time.monotonic() + seconds
     return _drawn(itertools.count() if tries is None else range(tries - 1), end)
 

@@ -91,9 +91,9 @@ class Link(Exchange):
         self.close()
 
     def transaction(self) -> Transaction:
-        """A transaction for an `async with` statement. It begins as the block is entered, once it
-        is its turn, commits at its end, and is dropped if an exception leaves it. `Aborted` if it
-        was a deadlock's victim."""
+        """A transaction for an `async with` statement. It begins as the block is entered, behind
+        those of other tasks. It commits at the block's end, and is dropped if an exception leaves
+        the block. `Aborted` if it was a deadlock's victim."""
         return Transaction(self)
 
     async def run(
@@ -290,8 +290,8 @@ async def connect(
     address: str, token: bytes, store: str = "main", time_out: Optional[float] = 1.0
 ) -> Link:
     """A link to a store of a gateway. The gateway listens at HOST:PORT or on a Unix socket, whose
-    path has a `/` in it. What may be lost is sent again after each time-out of so many seconds;
-    None waits forever, for the gateway too."""
+    path has a `/` in it. If an answer doesn't come within `time_out` seconds, what may be lost is
+    sent again. None waits forever, for the gateway too."""
     connected = None
     try:
         async with asyncio.timeout(None if time_out is None else PATIENCE * time_out):

@@ -21,9 +21,9 @@ const GREETING: Duration = Duration::from_secs(10);
 const ANSWER: Duration = Duration::from_secs(1);
 /// How long the other end may take no byte of a frame.
 const SEND: Duration = Duration::from_secs(30);
-/// The name of a store has no more bytes.
+/// The most bytes of a store's name.
 const NAME: usize = 63;
-/// The numbers of `rughvadi_connect.h`: behind the last one, the gateway's answers.
+/// Numbers of `rughvadi_connect.h`. The gateway's answer is added to the last one.
 const SYSTEM: u32 = 0x401;
 const CLOSED: u32 = 0x402;
 const ANSWERS: u32 = 0x500;
@@ -35,13 +35,13 @@ pub type Token = [u8; 32];
 #[derive(Clone, Copy, Debug, PartialEq, Eq)]
 #[non_exhaustive]
 pub enum Refusal {
-    /// It is no gateway of this version.
+    /// No gateway of this version answered.
     Greeting,
     /// No client has this token.
     Token,
     /// No store has this name.
     Store,
-    /// The store hasn't so many clients.
+    /// The store has no client with the token's number.
     Client,
     /// The store isn't served at the moment: try again later.
     Down,
@@ -60,10 +60,10 @@ impl Refusal {
 
     pub(crate) fn text(self) -> &'static str {
         match self {
-            Refusal::Greeting => "it is no gateway of this version",
+            Refusal::Greeting => "no gateway of this version answered",
             Refusal::Token => "no client has this token",
             Refusal::Store => "no store has this name",
-            Refusal::Client => "the store hasn't so many clients",
+            Refusal::Client => "the store has no client with the token's number",
             Refusal::Down => "the store isn't served at the moment",
         }
     }
@@ -114,7 +114,7 @@ impl Stream {
         }
     }
 
-    /// Sets how long a write waits while no byte goes.
+    /// Sets how long a write waits while the other end takes no byte.
     pub fn set_write_timeout(&self, most: Option<Duration>) -> io::Result<()> {
         match self {
             Stream::Local(stream) => stream.set_write_timeout(most),

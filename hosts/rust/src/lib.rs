@@ -60,7 +60,7 @@ pub struct Limits {
 }
 
 impl Limits {
-    /// Limits of a store with so many slots in a client's pool. `kin` is a quarter of them and
+    /// Limits of a store, with that many slots in a client's pool. `kin` is a quarter of them and
     /// `kout` half of them, at least 1 each. Write permissions aren't kept.
     pub const fn new(clients: u32, pages: u32, page_size: usize, slots: usize) -> Limits {
         Limits {
@@ -142,7 +142,7 @@ pub fn read_frame(limits: &Limits, bytes: &[u8]) -> Result<FrameHead> {
     })
 }
 
-/// The version of the library's interface, which is that of this crate's first number.
+/// The version of the library's interface: the first number of this crate's version.
 pub fn version() -> u32 {
     // SAFETY: it takes nothing.
     unsafe { ffi::rughvadi_version() }

@@ -20,8 +20,8 @@ const ROOM: usize = 65536;
 const FIRST_PAUSE: Duration = Duration::from_micros(500);
 const LONGEST_PAUSE: Duration = Duration::from_millis(100);
 
-/// Whether a read waited for as long as the stream lets it. A socket says so by `WouldBlock`: its
-/// `TimedOut` says that TCP gave the connection up.
+/// Whether a read's time-out passed. A socket says that by `WouldBlock`; its `TimedOut` says that
+/// TCP gave the connection up.
 fn is_late(error: &io::Error) -> bool {
     match error.kind() {
         ErrorKind::WouldBlock => true,
@@ -33,14 +33,14 @@ fn is_late(error: &io::Error) -> bool {
 /// How long [`Link::run_within`] goes on. A field that is `None` sets no bound.
 #[derive(Clone, Copy, Debug, Default, PartialEq, Eq)]
 pub struct Bound {
-    /// So many tries at most.
+    /// The most tries.
     pub tries: Option<u32>,
     /// No try but the first begins later than this after the call.
     pub time: Option<Duration>,
 }
 
 impl Bound {
-    /// Whether no try begins at that moment, after so many of them.
+    /// Whether no further try may begin at that moment, after that many of them.
     fn is_reached(&self, tries: u32, after: Duration) -> bool {
         self.tries.map_or(false, |most| tries >= most)
             || self.time.map_or(false, |most| after > most)
@@ -117,7 +117,7 @@ impl<S: Read + Write> Link<S> {
         &self.client
     }
 
-    /// The stream, as to set its time-outs.
+    /// The stream, for example to set its time-outs.
     pub fn stream(&self) -> &S {
         &self.stream
     }
@@ -179,9 +179,9 @@ impl<S: Read + Write> Link<S> {
         Ok((answer, transaction.commit()?))
     }
 
-    /// How long the next try waits, after so many of them were aborted. Clients that aborted each
-    /// other come apart by this. Without a socket there is no wait, which would only hold others
-    /// up.
+    /// How long the next try waits, after that many were aborted. The waits are drawn, so clients
+    /// that aborted each other hardly meet again. Without a socket it doesn't wait, since others
+    /// would wait for it.
     fn pause(&mut self, aborted: u32) -> Duration {
         if self.socket.is_none() {
             return Duration::ZERO;
@@ -194,8 +194,8 @@ impl<S: Read + Write> Link<S> {
         Duration::from_nanos(self.draws % (most + 1))
     }
 
-    /// Takes what the stream gives next. Others wait for the pages that the client holds until it
-    /// has answered. `false` if the stream's time-out for reads passed first.
+    /// Takes what the stream gives next, and answers. Others may wait for that, since they want
+    /// pages that the client holds. `false` if the stream's time-out for reads passed first.
     pub fn serve(&mut self) -> Result<bool> {
         self.check()?;
         self.send_said()?;

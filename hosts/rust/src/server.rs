@@ -20,7 +20,7 @@ pub struct BatchPage {
 pub struct Batch {
     /// The last commit in it, which is kept with the pages.
     pub number: u64,
-    /// The pages, rising.
+    /// The pages, by rising number.
     pub pages: Vec<BatchPage>,
 }
 
@@ -148,8 +148,8 @@ impl Server {
         done(unsafe { ffi::rughvadi_server_flushed(self.object.at(), number) })
     }
 
-    /// Drops the commits up to this number, which are on disk, from memory, which grows with each
-    /// commit otherwise.
+    /// Drops the commits up to this number, which are on disk, from memory. Without this call
+    /// memory grows with each commit.
     pub fn forget(&mut self, number: u64) -> Result<()> {
         // SAFETY: the handle is the object's own.
         done(unsafe { ffi::rughvadi_server_forget(self.object.at(), number) })

@@ -5,7 +5,7 @@ use std::os::unix::io::RawFd;
 use std::time::{Duration, Instant};
 
 /// Waits until there is something to receive or the connection ended, at most until that moment.
-/// Returns whether it is so. A signal doesn't end the wait.
+/// Returns whether one of both happened. A signal doesn't end the wait.
 pub(crate) fn comes(socket: RawFd, until: Instant) -> io::Result<bool> {
     loop {
         let left = until.saturating_duration_since(Instant::now());
