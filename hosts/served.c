@@ -179,7 +179,7 @@ static void make_tables(struct store *store, const rughvadi_limits *limits) {
 static sqlite3_int64 one_number(struct store *store, const char *text) {
   sqlite3_stmt *statement = prepared(store, text);
   if (sqlite3_step(statement) != SQLITE_ROW) {
-    die("store: it has other tables");
+    die("store: a row is missing");
   }
   sqlite3_int64 number = sqlite3_column_int64(statement, 0);
   sqlite3_finalize(statement);
@@ -211,7 +211,7 @@ static void store_open(struct store *store, const char *path, const rughvadi_lim
   }
   if (one_number(store, "SELECT page_size FROM mark2") != (sqlite3_int64)limits->page_size
       || one_number(store, "SELECT pages FROM mark2") != (sqlite3_int64)limits->pages) {
-    die("%s is a store of other limits", path);
+    die("%s is a store with other limits", path);
   }
   run(store, "BEGIN IMMEDIATE");
   run(store, LIVES);
@@ -301,7 +301,7 @@ static void open_server(struct host *host) {
     size_t from = (size_t)sqlite3_column_int64(rows, 1) * PART;
     size_t size = (size_t)sqlite3_column_bytes(rows, 2);
     if (from >= host->limits.page_size || size != part_size(&host->limits, from)) {
-      die("store: a part of another size");
+      die("store: a part of a page has another size");
     }
     memcpy(host->page + from, sqlite3_column_blob(rows, 2), size);
     if (from + size == host->limits.page_size) {

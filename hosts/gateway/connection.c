@@ -217,7 +217,7 @@ void connection_tick(struct connection *connection) {
     connection->began = connection->began == 0 ? 0 : gateway->now;
     owed_put_off(&connection->owed, gateway->now);
   } else if (gateway_waited(gateway, connection->began, gateway->patience)) {
-    connection_cut(connection, "half a frame, and no more");
+    connection_cut(connection, "its frame isn't whole in time");
   } else if (gateway->silence != 0
              && gateway_waited(gateway, owed_since(&connection->owed), gateway->silence)) {
     connection_cut(connection, "it doesn't answer");

@@ -46,7 +46,7 @@ void refused_tick(struct refused *refused, uint64_t now) {
   if (refused->untold == 0 || now - refused->told < TOLD) {
     return;
   }
-  log_line(LEVEL_WARNING, "%u more refused; the last, a connection from %s: %s", refused->untold,
+  log_line(LEVEL_WARNING, "%u more connections refused; the last from %s: %s", refused->untold,
            refused->name, REASONS[refused->reason]);
   refused->untold = 0;
   refused->told = now;

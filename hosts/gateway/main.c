@@ -145,7 +145,7 @@ static void raise_files(const struct places *places) {
   limit.rlim_cur = needed < limit.rlim_max ? needed : limit.rlim_max;
   setrlimit(RLIMIT_NOFILE, &limit);
   if (limit.rlim_cur < needed) {
-    log_line(LEVEL_WARNING, "%ju files may be open, and all clients together may need %ju",
+    log_line(LEVEL_WARNING, "only %ju files may be open, and all clients together may need %ju",
              (uintmax_t)limit.rlim_cur, (uintmax_t)needed);
   }
 }

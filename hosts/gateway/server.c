@@ -261,7 +261,7 @@ static void said(uv_stream_t *stream, ssize_t count, const uv_buf_t *buffer) {
     return;
   }
   if (count >= 0) {
-    log_line(LEVEL_ERROR, "store %s: its server says no frames, or memory was refused",
+    log_line(LEVEL_ERROR, "store %s: its server puts out no frames, or memory was refused",
              name_of(server));
   }
   go_down(server);

@@ -94,7 +94,8 @@ bool tokens_read(struct tokens *tokens, const char *path) {
   }
   bool is_known = fstat(fileno(file), &state) == 0;
   if (!is_known || (state.st_mode & 077) != 0 || (state.st_uid != 0 && state.st_uid != geteuid())) {
-    log_line(LEVEL_ERROR, "%s: others than its owner may use it, or another owns it: chmod 600",
+    log_line(LEVEL_ERROR,
+             "%s: root or the gateway's user has to own it, and nobody else may use it (chmod 600)",
              path);
     fclose(file);
     return false;
@@ -269,7 +270,7 @@ static bool add_place(struct places *places, const char *name, const char *confi
   place->database = strdup(database);
   place->is_file = is_file(database);
   if (!place->is_file && has_password(database)) {
-    log_line(LEVEL_ERROR, "store %s: a password stands where others can read it: use a file", name);
+    log_line(LEVEL_ERROR, "store %s: others could read its password: put it into a file", name);
     return false;
   }
   return place->name != NULL && place->config != NULL && place->database != NULL
@@ -317,7 +318,7 @@ bool places_read(struct places *places, const char *path) {
     return false;
   }
   if (places->count == 0) {
-    log_line(LEVEL_ERROR, "%s: it has no store", path);
+    log_line(LEVEL_ERROR, "%s: it names no store", path);
   }
   return places->count > 0;
 }

@@ -144,7 +144,7 @@ def told_of_strangers(scene: Scene) -> bool:
     for _ in range(400):
         with Peer(gateway, None, "127.0.0.9") as peer:
             peer.greeted(bytes(32))
-    wait_for(lambda: " more refused; " in gateway.log(), 20)
+    wait_for(lambda: " more connections refused; " in gateway.log(), 20)
     lines = [line for line in gateway.log().splitlines() if "127.0.0.9:" in line]
     counts = [line.split(" more ")[0].split()[-1] for line in lines if " more " in line]
     return 0 < len(lines) < 100 and sum(map(int, counts)) > 0 and "no such token" in lines[0]
@@ -232,7 +232,7 @@ def slow_frame(scene: Scene) -> bool:
         sent = 0
         while sent < len(said) and not peer.is_closed(0.4):
             sent += peer.says(said[sent : sent + 1])
-        return sent < len(said) and "half a frame" in gateway.log()
+        return sent < len(said) and "its frame isn't whole in time" in gateway.log()
 
 
 # ---- servers that announce their lives, and silent ones ----
@@ -270,7 +270,7 @@ def unannounced_servers(scene: Scene) -> bool:
     no incarnation."""
     first = scene.gateway("--announced")
     second = scene.gateway("--announced", command=scene.stand_in("--floor", (1 << 62) - 1))
-    ends = wait_for(lambda: "says no frames" in second.log(), 60)
+    ends = wait_for(lambda: "puts out no frames" in second.log(), 60)
     return ends and [answer_to(each, 1)[0] for each in (first, second)] == [5, 5]
 
 
