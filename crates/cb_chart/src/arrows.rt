@@ -60,7 +60,7 @@ pub(crate) fn add_arrow(
     }
 }
 
-/// The arrow that ends at an event that was answered so, if it took a packet.
+/// The arrow that ends at an event with this answer, if it took a packet.
 fn arrow_to(sendings: &[Sending], made: &Event, answered: &AnswerWord, event: u16) -> Option<Arrow>
     ensures { result ≡ arrow_to sendings.now made.now answered.now event }
 {

@@ -60,7 +60,7 @@ pub(crate) fn ended<Q: Chooser>(world: &World<Q>, before: ClientSet) -> Option<T
     None
 }
 
-/// How the last transaction of a client ended that has none.
+/// How the last transaction ended of a client that has none now.
 fn outcome_of<Q: Chooser>(client: &Client<Q>) -> Option<Outcome> {
     match client.status() {
         ClientStatus::Idle => client.last(),

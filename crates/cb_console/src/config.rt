@@ -94,9 +94,9 @@ pub enum ConfigFault {
     Limit(LimitFault),
     /// There are more than 100,000 jobs.
     Jobs,
-    /// Whether permissions to write are kept is neither 0 nor 1.
+    /// `keep_write` is neither 0 nor 1.
     KeepWrite,
-    /// Whether the schedule is one over several lives of the server is neither 0 nor 1.
+    /// `lives` is neither 0 nor 1.
     Lives,
     /// There is no memory to read the text.
     Memory,
@@ -246,8 +246,8 @@ fn config_of(required: RequiredNumbers, others: DefaultedNumbers) -> Result<Conf
     })
 }
 
-/// How many jobs. Refuses too many, and what is neither 0 nor 1 for whether permissions are kept or
-/// the server has several lives.
+/// How many jobs there are. Refuses too many, and a `keep_write` or `lives` that is neither 0 nor
+/// 1.
 #[tactic(auto, unfolding(crate::specs::Settings::others_causes))]
 fn jobs_of(others: DefaultedNumbers) -> Result<u32, ConfigFault>
     ensures { Gives (first_fault (others_causes others)) others.jobs result }

@@ -17,8 +17,8 @@ use std::alloc::Global;
 use std::io;
 use std::io::Write;
 
-/// Draws so many events by the words of a seed, with the configuration's limits, and prints them as
-/// the text of a schedule.
+/// Draws that many events by the words of a seed, with the configuration's limits, and prints them
+/// as the text of a schedule.
 ///
 /// Returns the program's status. A fault of the configuration, or want of memory, is printed to
 /// `err`, and then nothing to `out`. It fails only if a writer does.
@@ -42,7 +42,7 @@ pub fn draw_to<O: Write, E: Write>(
     }
 }
 
-/// Reads the configuration, and draws so many events.
+/// Reads the configuration, and draws that many events.
 fn read_and_draw(
     alloc: Global,
     config: &[u8],
@@ -131,7 +131,7 @@ fn put_arguments<O: Write>(out: &mut O, call: &Call) -> io::Result<()>
     }
 }
 
-/// The first byte; 0 of no bytes.
+/// The first byte, or 0 if there is none.
 fn first_byte(bytes: &[u8]) -> u8
     ensures { result ≡ slice_index bytes.now 0 }
 {

@@ -1,11 +1,11 @@
-//! How a line shows a text of others.
+//! How a line shows a text from elsewhere.
 ghost use Rattle.std.specs.Prelude.{Some};
 ghost use Rattle.cb_console.specs.Escaped.{escaped, escaped_character};
 
 use std::fmt;
 
 /// A text as a line shows it: each control character by its code, as `\u{1b}`, any other character
-/// as it is. So it stays one line, and nothing of it steers a terminal.
+/// as it is. It therefore stays one line, and can't steer a terminal.
 #[derive(Clone, Copy)]
 pub struct Escaped<'a>(pub &'a str);
 

@@ -25,8 +25,8 @@ pub fn put_entries<O: Write>(out: &mut O, entries: &[TranscriptEntry]) -> io::Re
     Ok(())
 }
 
-/// Prints the same of what happened over several lives of the server. The line of a restart of it
-/// has `restarted`, or `refused` with the refusal's number and name.
+/// Prints the same of what happened over several lives of the server. The line of a restart has
+/// `restarted`, or `refused` with the refusal's number and name.
 pub fn put_lives_entries<O: Write>(out: &mut O, entries: &[LivesEntry]) -> io::Result<()>
     ensures { OnOk result
         (Appends (O.contents out.old) (O.contents out.new) (lives_lines_from 1 entries.now)) }

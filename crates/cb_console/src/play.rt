@@ -86,7 +86,7 @@ pub enum Play {
     Part(Transcript),
     /// To its end, over several lives of the server.
     WholeLives(LivesTranscript),
-    /// So to where memory was refused.
+    /// Over several lives of the server, to where memory was refused.
     PartLives(LivesTranscript),
 }
 

@@ -1,12 +1,13 @@
 //! A client alone, as a list plays it: number 0 at incarnation 1, over 2Q of the limits. What plays
 //! a line is over any chooser, which is cheaper to prove.
 //!
-//! A call that memory was refused for is made once more, as is the client itself: it changed
-//! nothing, so that if one growth of the client's is refused the same is printed as if none is.
+//! A call for which memory was refused is made once more, and so is the client itself. A refused
+//! call changed nothing. If one growth of the client's is refused, the output is therefore the same
+//! as if none is.
 //!
-//! At its end the references that the pool's chooser was called for are compared with those that
-//! the answers tell of: each read that was answered with bytes, and each copy that came of a page
-//! that wasn't here and is then.
+//! At a list's end the references for which the pool's chooser was called are compared with those
+//! that the answers tell of. These are each read that was answered with bytes, and each copy that
+//! brought in a page whose bytes weren't here.
 
 use crate::frames::{put_digits, put_frames};
 use crate::references::Noting;
@@ -38,7 +39,7 @@ pub(crate) fn play_list<O: Write>(
     put_references(&client, told.as_slice(), out)
 }
 
-/// A new client, over a chooser that notes so many references at most.
+/// A new client, over a chooser that notes at most that many references.
 fn new_client(
     alloc: Global,
     limits: Limits,

@@ -22,7 +22,7 @@ impl<Q: Chooser> Model for Noting<Q> {
 }
 
 impl<Q: Chooser> Noting<Q> {
-    /// With room for so many references.
+    /// With room for that many references.
     pub(crate) fn new(alloc: Global, chooser: Q, room: usize) -> Result<Noting<Q>, AllocError>
         ensures { IfOk result (λ noting. noting ≡ chooser) }
     {

@@ -1,7 +1,8 @@
 //! A server alone, as a list plays it, over a store of zeros.
 //!
-//! A call that memory was refused for is made once more, as is the server itself: it changed
-//! nothing, so that if one growth of the server's is refused the same is printed as if none is.
+//! A call for which memory was refused is made once more, and so is the server itself. A refused
+//! call changed nothing. If one growth of the server's is refused, the output is therefore the same
+//! as if none is.
 
 use crate::frames::{put_digits, put_frames};
 use crate::words::{bytes, is_opening, limits, next_word, number};

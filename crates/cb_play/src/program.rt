@@ -143,8 +143,8 @@ pub(crate) fn tell_words<O: Write, E: Write>(
     Ok(DONE)
 }
 
-/// Says what is wrong with wrong words, their control characters escaped: such a word is no more
-/// right than before.
+/// Says what is wrong with wrong words, with their control characters escaped. An escaped word is
+/// as wrong as it was.
 fn refuse_words<E: Write>(rt: &HostRuntime, words: &[String], err: &mut E) -> io::Result<u8>
     ensures { IfOk result (λ status. status ≡ 2) }
 {

@@ -190,8 +190,8 @@ where
     }
 }
 
-/// Runs workers from a store on, which lies in the shelf, in a life that has begun over it: so who
-/// joins has an incarnation above its floor.
+/// Runs workers from a store on that lies in the shelf. A life has begun over it, so whoever joins
+/// has an incarnation above its floor.
 fn run_from<R, S, G, W, O, E>(
     threads: &R,
     alloc: Global,
@@ -256,7 +256,7 @@ where
     Ok(printed_of(ended))
 }
 
-/// What is left of a run that ended so, once its office is gone.
+/// What is left of a run with this end, once its office is gone.
 fn printed_of(ended: RunEnd<'_>) -> Printed
     ensures status { result.status ≡ ended.entry.status }
     ensures run { result.run ≡ cut_off_of ended.entry.over }

@@ -9,7 +9,7 @@ use crate::picture::layout::{Layout, ROW};
 use std::io;
 use std::io::Write;
 
-/// A page's number stands in its bar again after so many events.
+/// After that many events a page's number stands in its bar again.
 const AGAIN: u16 = 20;
 
 /// Prints each bar.

@@ -40,7 +40,7 @@ pub(crate) enum Room {
 }
 
 impl Room {
-    /// The room that so many columns take.
+    /// The room that this many columns take.
     fn of(columns: u16) -> Room {
         match columns {
             0..=2 => Room::Two,
@@ -75,7 +75,7 @@ impl Room {
         u32::from(self.columns()) * COLUMN
     }
 
-    /// How wide so many lanes are, with the room for labels in each.
+    /// How wide this many lanes are, with the room for labels in each.
     fn lanes(self, count: u16) -> u32
         ensures value { result ≡ lane_width self * count }
         ensures most { result ≤ 988 * count }
