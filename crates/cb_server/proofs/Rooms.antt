@@ -89,7 +89,7 @@ can_answer old mid limits b messages copies of same is also room =
     (subst (λ (n : ℕ). HasRoom mid (messages_in_all mid + messages) (read_asks_in_all mid + n)) also room)
 
 -- where nobody waits, settling needs nothing
-none_at : (n m : ℕ) → n + m ≡ 0 → (n ≡ 0) × (m ≡ 0)
+pub none_at : (n m : ℕ) → n + m ≡ 0 → (n ≡ 0) × (m ≡ 0)
 none_at n m e = (omega (arith, e), omega (arith, e))
 
 no_messages : (clients : ℕ) (q : List WaitingAsk) → length q ≡ 0 → messages_for_queue clients q ≡ 0

@@ -1,5 +1,5 @@
 -- What is said with a change, to the protocol's server.
-use Rattle.std.proofs.Common.{◌≡◌, ℕ, Bool, true, ◌<◌, ◌-◌, List, [], ◌∷◌, ◌++◌, length, refl, sym, ap, ◌∙◌, arith}
+use Rattle.std.proofs.Common.{◌≡◌, ℕ, Bool, true, ◌<◌, ◌-◌, List, [], ◌∷◌, ◌++◌, length, refl, sym, ◌∙◌, arith}
 use Rattle.std.specs.Prelude.{slice_set}
 use Rattle.std.proofs.lemmas.Bool.Decides.{nat_tests}
 use Rattle.std.proofs.lemmas.List.{append-nil}
@@ -14,7 +14,7 @@ use Rattle.cb_links.specs.declared.sessions.Transaction.{Transaction}
 use Rattle.cb_links.specs.declared.sessions.Transaction.TheVariants.{NotBegun, Live, Ended}
 use Rattle.cb_outbox.specs.Saying.{OutboxState, Says}
 use Rattle.cb_protocol.specs.Messages.{AbortNow, Granted, MayWrite, Message}
-use Rattle.cb_protocol.specs.Server.{ChangeSession, Doom, LeaveQueue, RemoveAsk, Server, WaitingAsk, server_after}
+use Rattle.cb_protocol.specs.Server.{ChangeSession, Doom, LeaveQueue, RemoveAsk, WaitingAsk, server_after}
 use Rattle.cb_protocol.specs.Session.{PermitWrite, has_live_txn}
 use Rattle.cb_protocol.specs.Settling.{doom_client, give_permission}
 use Rattle.cb_server_state.specs.Granting.{grant_copy}
