@@ -218,12 +218,12 @@ number_left s c t p l f e = let left = sym is ∙ e in grind (arith, nat_tests, 
 -- of an engine
 pub free_by : (e : Engine) (c p : ℕ) → HasPage e p → is_free e c p ≡ true → IsFreeFor (server_in e) c p
 free_by e c p within free =
-    let last = both (is_none ((s.session c).row p) && no_other_holder (s.store.holder p) c) (asks_below s s.pages == 0) free in
-    let others = both (is_none ((s.session c).row p)) (no_other_holder (s.store.holder p) c) last.0 in record {
-      nobody = nobody_counted s (one_number (asks_below s s.pages) 0 last.1);
+    let last = both ((asks_below s s.pages == 0) && is_none ((s.session c).row p)) (no_other_holder (s.store.holder p) c) free in
+    let others = both (asks_below s s.pages == 0) (is_none ((s.session c).row p)) last.0 in record {
+      nobody = nobody_counted s (one_number (asks_below s s.pages) 0 others.0);
       within = within;
-      alone = others.1;
-      no_row = others.0;
+      alone = last.1;
+      no_row = others.1;
     }
   where
     s : Server
@@ -234,10 +234,6 @@ free_by e c p within free =
     both false b e = absurd cc
 
 -- where nothing but room has changed
-pub free_left : (old mid : Engine) (c p : ℕ) → server_in mid ≡ server_in old → is_free old c p ≡ true → is_free mid c p ≡ true
-free_left old mid c p same free =
-    ap (λ (s : Server). is_none ((s.session c).row p) && no_other_holder (s.store.holder p) c && (asks_below s s.pages == 0)) same ∙ free
-
 pub number_by : (old mid : Engine) (c t p : ℕ) → server_in mid ≡ server_in old → LacksNumber old c (AskRead t p) false → LacksNumber mid c (AskRead t p) false
 number_by old mid c t p same number = subst (λ (s : Server). numbers.LacksNumber s c (AskRead t p) false) (sym same) number
 

@@ -73,13 +73,13 @@ read_asks_in_all engine = read_asks_below (server_in engine) (server_in engine).
 abbrev pub asks_in_all : Engine → ℕ
 asks_in_all engine = asks_below (server_in engine) (server_in engine).pages
 
--- an ask of the client to read the page can be granted at once: the client has no copy, no other
--- client is the page's write holder, and nobody waits for any page
+-- an ask of the client to read the page can be granted at once: nobody waits for any page, the
+-- client has no copy, and no other client is the page's write holder
 abbrev pub is_free : Engine → (client page : ℕ) → Bool
 is_free engine client page =
-    is_none (((server_in engine).session client).row page)
+    (asks_in_all engine == 0)
+    && is_none (((server_in engine).session client).row page)
     && no_other_holder ((server_in engine).store.holder page) client
-    && (asks_in_all engine == 0)
 
 -- how many messages settling may send for all asks that wait: two for an ask to read, and for an
 -- ask to write one to each client and one more to its own (this project's rule)

@@ -1,6 +1,6 @@
 //! Asks to read and to write.
-ghost use Rattle.std.specs.Prelude.{◌≡◌, ◌<◌, ◌∷◌, [], if◌then◌else◌, false, true, IfErr, OnErr};
-ghost use Rattle.std.specs.Prelude.{OnOk};
+ghost use Rattle.std.specs.Prelude.{◌≡◌, ◌==◌, ◌<◌, ◌∷◌, [], if◌then◌else◌, false, true, IfErr};
+ghost use Rattle.std.specs.Prelude.{OnErr, OnOk};
 ghost use Rattle.cb_protocol.specs.Messages.{AskRead, AskWrite};
 ghost use Rattle.cb_protocol.specs.Server.{is_write_holder};
 ghost use Rattle.cb_protocol.specs.ServerMessages.{enter_queue, has_waiting_ask, new_ask};
@@ -10,8 +10,8 @@ ghost use Rattle.cb_protocol.specs.Settling.{give_permission, send_granted, sole
 ghost use Rattle.cb_protocol.specs.WaitsFor.{on_cycle};
 ghost use Rattle.cb_server.specs.Answering.{CanGrant, CanSay, HasClient, HasLimits, HasPage};
 ghost use Rattle.cb_server.specs.Answering.{IsCurrent, IsLeft, IsReady, IsStanding, LacksNumber};
-ghost use Rattle.cb_server.specs.Answering.{Makes, Serves, answer_to, is_free, places_at};
-ghost use Rattle.cb_server.specs.Answering.{server_in};
+ghost use Rattle.cb_server.specs.Answering.{Makes, Serves, answer_to, asks_in_all, is_free};
+ghost use Rattle.cb_server.specs.Answering.{places_at, server_in};
 ghost use Rattle.cb_server.specs.Taking.{is_exhaustion};
 
 use crate::engine::Engine;
@@ -52,9 +52,9 @@ impl Engine {
         if self.callbacks.lacks_grant(client, standing, row.is_some()) {
             return Err(ServerFault::Exhausted);
         }
-        let at_once = self.is_free(client, page, row);
         // For a Downgrade or the copy, and for an AbortNow.
-        self.reserve(alloc, limits, 2, 1)?;
+        let nobody_waits = self.reserve(alloc, limits, 2, 1)?;
+        let at_once = self.is_free(client, page, row, nobody_waits);
         if at_once {
             return Ok(self.grant_free(client, incarnation, txn, page, standing));
         }
@@ -64,19 +64,24 @@ impl Engine {
     }
 
     /// Whether the client's ask to read the page, of which it has that row, can be granted at once:
-    /// it has no copy, no other client may write the page, and nobody waits for any page.
-    fn is_free(&self, client: ClientNo, page: PageNo, row: Option<GrantNo>) -> bool
+    /// nobody waits for any page, the client has no copy, and no other client may write the page.
+    fn is_free(
+        &self,
+        client: ClientNo,
+        page: PageNo,
+        row: Option<GrantNo>,
+        nobody_waits: bool,
+    ) -> bool
         requires page { HasPage self.now page }
         requires row { row ≡ ((server_in self.now).session client).row page }
+        requires nobody { nobody_waits ≡ (asks_in_all self.now == 0) }
         ensures { result ≡ is_free self.now client page }
     {
-        row.is_none()
-            && self.callbacks.state().no_other_holder(client, page)
-            && self.callbacks.waiting_asks() == 0
+        nobody_waits && row.is_none() && self.callbacks.state().no_other_holder(client, page)
     }
 
-    /// AskRead of a free page, whose transaction stands so. Its ask would enter the page's queue and
-    /// be granted, and settling would find no other. So the copy is granted at once.
+    /// AskRead of a free page, whose transaction stands so. Its ask would enter the page's queue
+    /// and be granted, and settling would find no other. So the copy is granted at once.
     fn grant_free(
         &mut self,
         client: ClientNo,
