@@ -7,6 +7,7 @@ ghost use Rattle.std.specs.Prelude.{◌≡◌, false};
 use crate::running::balky::Balky;
 use crate::running::clocks::OwnClock;
 use crate::running::hurried::Hurried;
+use crate::running::looking::Looks;
 use crate::running::work::{Deed, Outcome, Work, opening, work_on};
 use cb_page::Limits;
 use sqlite::{Alter, Connection, FileStore, Files, Options};
@@ -28,6 +29,8 @@ pub(crate) struct Faults<'a> {
     pub(crate) frees: bool,
     /// What shows the time, where that isn't the runtime's; it goes on as the log is written.
     pub(crate) clock: Option<&'a OwnClock>,
+    /// What is looked at before each write of the log.
+    pub(crate) looks: Option<Looks<'a>>,
 }
 
 /// Disks that don't stop, and refuse nothing.
@@ -37,6 +40,7 @@ pub(crate) const NONE: Faults<'static> = Faults {
     left: None,
     frees: false,
     clock: None,
+    looks: None,
 };
 
 /// Room for all pages of the tables, which an open clears; and a short log, since a sync of a disk
@@ -110,14 +114,26 @@ fn both_over<R: Threads + Wait + Clock + Sync, D: Crash + Drop>(
 }
 
 /// New files, with these faults.
-fn new_files(alloc: Global, faults: Faults<'_>) -> Files<Balky<'_, Fuse<Memory>>> {
+fn new_files<'a, R: Wait>(
+    rt: &'a R,
+    alloc: Global,
+    faults: Faults<'a>,
+) -> Files<Balky<'a, R, Fuse<Memory>>> {
     Files {
         log: Balky::new(
+            rt,
             Fuse::new(Memory::new(alloc), faults.log),
             faults.left,
             faults.clock,
+            faults.looks,
         ),
-        db: Balky::new(Fuse::new(Memory::new(alloc), faults.db), None, None),
+        db: Balky::new(
+            rt,
+            Fuse::new(Memory::new(alloc), faults.db),
+            None,
+            None,
+            None,
+        ),
     }
 }
 
@@ -135,5 +151,6 @@ pub(crate) fn both<R: Threads + Wait + Clock + Sync>(
     };
     let room = if faults.frees { faults.left } else { None };
     let hurried = Hurried::new(rt, room, faults.clock);
-    both_over(&hurried, alloc, &limits, new_files(alloc, faults), works)
+    let files = new_files(rt, alloc, faults);
+    both_over(&hurried, alloc, &limits, files, works)
 }

@@ -220,8 +220,7 @@ pub(crate) fn came_in<R: Threads + Wait + Clock + Sync, S: Alter>(
         rt, alloc, limits, office, shelf, jobs, &gate, &mut watch, &mut out, &mut err,
     );
     let answered = counts.answered.load(Ordering::SeqCst);
-    let odd = counts.odd.load(Ordering::SeqCst);
-    let whole = is_whole(&office.lock(rt), watch.told.last) && odd == 0 && counts.turns.is_well();
+    let whole = is_whole(&office.lock(rt), watch.told.last) && counts.is_well(answered);
     if !are_fair(office.lock(rt).window(), answered) {
         return Came::Wrong;
     }
@@ -268,6 +267,7 @@ pub(crate) fn came_over<R: Threads + Wait + Clock + Sync>(
         left: Some(&counts.left),
         frees: is_full(plan.act),
         clock: None,
+        looks: None,
     };
     let works = [running(text, &counts), opening(Deed::Begin(&counts))];
     match both(rt, alloc, plan.clients, faults, works) {
@@ -297,13 +297,6 @@ pub(crate) fn open_plan(clients: u16, jobs: u32, steps: u64) -> Plan {
         steps,
         act,
     }
-}
-
-/// The stored run of `cb_play` has 100 jobs for each client, over a file.
-#[test]
-fn counters(rt: HostRuntime) {
-    assert!(rt; run_to_end(&rt, rt.alloc(), open_plan(4, 25, 0)) == Came::Done(100));
-    assert!(rt; run_to_end(&rt, rt.alloc(), open_plan(1, 0, 0)) == Came::Done(0));
 }
 
 /// No write gets through: three tries, then the office is halted.

@@ -10,6 +10,7 @@ use crate::running::flags::{Flags, Moment, follows, wakes};
 use crate::running::gates::Counts;
 use crate::running::giving_up::drops_and_gives_up;
 use crate::running::late::{comes_too_late, is_skipped, is_skipped_beside};
+use crate::running::looking::Looks;
 use crate::running::numbers::are_answered_their_own;
 use crate::running::other_limits::is_refused_with_others;
 use crate::running::pacing::keeps_pace;
@@ -70,6 +71,8 @@ pub(crate) enum Trial<'a> {
     Unwatched,
     /// Workers run.
     Run(&'a Counts),
+    /// The same, in the office that is looked at.
+    LookedAt(Looks<'a>),
 }
 
 /// How many calls of `work` the office is for.
@@ -130,6 +133,10 @@ fn comes_with<R: Wait + Threads + Clock + Sync, S: Alter>(
         Trial::Paced(clock) => keeps_pace(rt, alloc, office, shelf, clock),
         Trial::Unwatched => is_counted(rt, alloc, limits, office, shelf),
         Trial::Run(counts) => {
+            return Outcome::Ran(came_in(rt, alloc, limits, office, shelf, counts));
+        }
+        Trial::LookedAt(looks) => {
+            let Looks { office, counts } = looks;
             return Outcome::Ran(came_in(rt, alloc, limits, office, shelf, counts));
         }
     };
