@@ -8,7 +8,7 @@ use crate::running::balky::Balky;
 use crate::running::clocks::OwnClock;
 use crate::running::hurried::Hurried;
 use crate::running::looking::Looks;
-use crate::running::work::{Deed, Outcome, Work, opening, work_on};
+use crate::running::work::{ShelfTask, Work, WorkEnd, opening, work_on};
 use cb_page::Limits;
 use sqlite::{Alter, Connection, FileStore, Files, Options};
 use sqlite_disk::{Crash, Disk, Fuse, Memory};
@@ -84,15 +84,15 @@ fn over<R: Threads + Wait + Clock + Sync, D: Disk + Drop>(
     limits: &Limits,
     files: Files<D>,
     work: Work<'_>,
-) -> (Outcome, Files<D>)
+) -> (WorkEnd, Files<D>)
     requires { limits.now.keep_write ≡ false }
 {
     match connect(alloc, files) {
         Ok(conn) => {
-            let (outcome, conn) = work_on(rt, alloc, limits, conn, work);
-            (outcome, files_of(conn))
+            let (end, conn) = work_on(rt, alloc, limits, conn, work);
+            (end, files_of(conn))
         }
-        Err(files) => (Outcome::Nothing, files),
+        Err(files) => (WorkEnd::Nothing, files),
     }
 }
 
@@ -103,7 +103,7 @@ fn both_over<R: Threads + Wait + Clock + Sync, D: Crash + Drop>(
     limits: &Limits,
     files: Files<D>,
     works: [Work<'_>; 2],
-) -> (Outcome, Outcome)
+) -> (WorkEnd, WorkEnd)
     requires { limits.now.keep_write ≡ false }
 {
     let (reached, mut files) = over(rt, alloc, limits, files, works[0]);
@@ -145,9 +145,9 @@ pub(crate) fn both<R: Threads + Wait + Clock + Sync>(
     clients: u16,
     faults: Faults<'_>,
     works: [Work<'_>; 2],
-) -> (Outcome, Outcome) {
+) -> (WorkEnd, WorkEnd) {
     let Ok(limits) = Limits::new(u64::from(clients), 2, 16, 2, 1, 1) else {
-        return (Outcome::Nothing, Outcome::Nothing);
+        return (WorkEnd::Nothing, WorkEnd::Nothing);
     };
     let room = if faults.frees { faults.left } else { None };
     let hurried = Hurried::new(rt, room, faults.clock);

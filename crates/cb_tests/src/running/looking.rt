@@ -4,7 +4,7 @@ use crate::running::disks::{Faults, NONE, both};
 use crate::running::gates::{Act, Counts, Plan};
 use crate::running::run::Came;
 use crate::running::trials::Trial;
-use crate::running::work::{Deed, Outcome, opening};
+use crate::running::work::{ShelfTask, WorkEnd, opening};
 use cb_commit::Store;
 use cb_page::Limits;
 use cb_station::{Office, Station};
@@ -54,11 +54,11 @@ fn counts_up<R: Threads + Wait + Clock + Sync>(
         ..NONE
     };
     let works = [
-        opening(Deed::Try(Trial::LookedAt(looks))),
-        opening(Deed::Begin(&counts)),
+        opening(ShelfTask::Try(Trial::LookedAt(looks))),
+        opening(ShelfTask::Begin(&counts)),
     ];
     let all = u64::from(clients) * u64::from(jobs);
-    both(rt, alloc, clients, faults, works) == (Outcome::Ran(Came::Done(all)), Outcome::Well(true))
+    both(rt, alloc, clients, faults, works) == (WorkEnd::Ran(Came::Done(all)), WorkEnd::Well(true))
 }
 
 /// The stored run of `cb_play` does the same over a file.

@@ -4,7 +4,7 @@ use crate::running::flags::greet;
 use crate::running::gates::{Act, Counts, Guarded, Plan};
 use crate::running::tickets::narrow;
 use crate::running::trials::Trial;
-use crate::running::work::{Deed, Outcome, Work, opening};
+use crate::running::work::{ShelfTask, Work, WorkEnd, opening};
 use cb_admission::AdmissionWindow;
 use cb_page::{ClientNo, CommitNo, Limits};
 use cb_run::{RunEnd, Watch, run_on_watched};
@@ -238,8 +238,8 @@ pub(crate) fn came_in<R: Threads + Wait + Clock + Sync, S: Alter>(
 /// Workers run after a text.
 fn running<'a>(text: &'a str, counts: &'a Counts) -> Work<'a> {
     let trial = Trial::Run(counts);
-    let deed = Deed::Try(trial);
-    Work { text, deed }
+    let task = ShelfTask::Try(trial);
+    Work { text, task }
 }
 
 /// Whether the disk is full for a while.
@@ -269,12 +269,12 @@ pub(crate) fn came_over<R: Threads + Wait + Clock + Sync>(
         clock: None,
         looks: None,
     };
-    let works = [running(text, &counts), opening(Deed::Begin(&counts))];
+    let works = [running(text, &counts), opening(ShelfTask::Begin(&counts))];
     match both(rt, alloc, plan.clients, faults, works) {
-        (Outcome::Ran(Came::Exhausted), _) => Came::Exhausted,
-        (Outcome::Ran(came), Outcome::Well(true)) => came,
-        (Outcome::Nothing, Outcome::Well(true)) => Came::Stopped,
-        (Outcome::Refused(ShelfFault::Store), Outcome::Well(true)) => Came::Stopped,
+        (WorkEnd::Ran(Came::Exhausted), _) => Came::Exhausted,
+        (WorkEnd::Ran(came), WorkEnd::Well(true)) => came,
+        (WorkEnd::Nothing, WorkEnd::Well(true)) => Came::Stopped,
+        (WorkEnd::Refused(ShelfFault::Store), WorkEnd::Well(true)) => Came::Stopped,
         _ => Came::Wrong,
     }
 }
