@@ -11,16 +11,16 @@ use std::alloc::Global;
 /// A database is opened, texts run over it, and a shelf of these limits is opened; this is done to
 /// it then.
 #[derive(Clone, Copy)]
-pub(crate) struct Session<'a> {
+pub(crate) struct ShelfSession<'a> {
     pub(crate) limits: &'a Limits,
     pub(crate) texts: [&'a str; 2],
     pub(crate) task: SessionTask,
 }
 
 /// After this text a shelf is read.
-pub(crate) fn reading<'a>(limits: &'a Limits, text: &'a str) -> Session<'a> {
+pub(crate) fn reading<'a>(limits: &'a Limits, text: &'a str) -> ShelfSession<'a> {
     let (texts, task) = ([text, ""], SessionTask::Load);
-    Session {
+    ShelfSession {
         limits,
         texts,
         task,
@@ -115,7 +115,7 @@ fn store_of<S: Alter + Drop>(conn: Connection<S>) -> S {
 fn session_over(
     alloc: Global,
     files: Files<Fuse<Memory>>,
-    session: Session<'_>,
+    session: ShelfSession<'_>,
 ) -> (SessionEnd, Files<Fuse<Memory>>) {
     match connect(alloc, files) {
         Ok(conn) => {
@@ -130,7 +130,7 @@ fn session_over(
 pub(crate) fn run_session(
     alloc: Global,
     files: Files<Fuse<Memory>>,
-    session: Session<'_>,
+    session: ShelfSession<'_>,
 ) -> (SessionEnd, Files<Fuse<Memory>>) {
     let (end, mut files) = session_over(alloc, files, session);
     files.log.crash();
@@ -147,7 +147,7 @@ fn run_texts<S: Alter>(conn: &mut Connection<S>, texts: [&str; 2]) -> bool {
 fn over<S: Alter>(
     alloc: Global,
     mut conn: Connection<S>,
-    session: Session<'_>,
+    session: ShelfSession<'_>,
 ) -> (SessionEnd, Connection<S>) {
     if !run_texts(&mut conn, session.texts) {
         return (SessionEnd::Database, conn);

@@ -1,7 +1,7 @@
 //! Lives of a server over a shelf: with which floors they begin, and what stops of the disks leave.
 
 use crate::shelf::disks::{
-    Calls, Session, SessionEnd, SessionTask, calls_of, files_that_stop, run_session,
+    Calls, SessionEnd, SessionTask, ShelfSession, calls_of, files_that_stop, run_session,
 };
 use crate::shelf::reopened::ends_of;
 use crate::shelf::shapes::{NEW, OLD};
@@ -20,9 +20,9 @@ const UNKEPT: u64 = 1 << 61;
 const HELLO: u64 = 1 << 22;
 
 /// After this text a life begins, and gets room for this incarnation if it has none.
-fn living<'a>(limits: &'a Limits, text: &'a str, incarnation: u64) -> Session<'a> {
+fn living<'a>(limits: &'a Limits, text: &'a str, incarnation: u64) -> ShelfSession<'a> {
     let (texts, task) = ([text, ""], SessionTask::Live(incarnation));
-    Session {
+    ShelfSession {
         limits,
         texts,
         task,
@@ -134,7 +134,12 @@ fn floor_of(end: SessionEnd) -> Option<u64> {
 }
 
 /// What a session came to whose disks stop so, if the next life begins as it may.
-fn stopped(alloc: Global, calls: Calls, session: Session<'_>, first: u64) -> Option<SessionEnd> {
+fn stopped(
+    alloc: Global,
+    calls: Calls,
+    session: ShelfSession<'_>,
+    first: u64,
+) -> Option<SessionEnd> {
     let hello = first.wrapping_add(HELLO);
     let files = files_that_stop(alloc, calls);
     let (reached, files) = run_session(alloc, files, session);

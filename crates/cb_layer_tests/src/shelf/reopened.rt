@@ -2,7 +2,7 @@
 
 use crate::shelf::batches::{SEVENS, Writing};
 use crate::shelf::disks::{
-    Session, SessionEnd, SessionTask, TwoPages, files_that_stop, reading, run_session,
+    SessionEnd, SessionTask, ShelfSession, TwoPages, files_that_stop, reading, run_session,
 };
 use crate::shelf::shapes::{OLD, OLD_STORE};
 use cb_page::Limits;
@@ -11,7 +11,7 @@ use std::alloc::Global;
 use std::test::Fail;
 
 /// What comes of the sessions, one after another over the same files, with a crash after each.
-pub(crate) fn ends_of(alloc: Global, sessions: [Session<'_>; 3]) -> [SessionEnd; 3] {
+pub(crate) fn ends_of(alloc: Global, sessions: [ShelfSession<'_>; 3]) -> [SessionEnd; 3] {
     let files = files_that_stop(alloc, (u64::MAX, u64::MAX));
     let (first, files) = run_session(alloc, files, sessions[0]);
     let (second, files) = run_session(alloc, files, sessions[1]);
@@ -22,7 +22,7 @@ pub(crate) fn ends_of(alloc: Global, sessions: [Session<'_>; 3]) -> [SessionEnd;
 /// Whether a commit is written so over zeros, and this is there when the tables are opened again,
 /// twice.
 fn is_written(alloc: Global, limits: &Limits, writing: Writing, held: TwoPages) -> bool {
-    let first = Session {
+    let first = ShelfSession {
         limits,
         texts: ["", ""],
         task: SessionTask::Write(writing),

@@ -1,7 +1,7 @@
 //! Which databases an open takes, and which it refuses.
 
 use crate::shelf::disks::{
-    Session, SessionEnd, SessionTask, TwoPages, files_that_stop, reading, run_session,
+    SessionEnd, SessionTask, ShelfSession, TwoPages, files_that_stop, reading, run_session,
 };
 use crate::shelf::reopened::ends_of;
 use cb_page::Limits;
@@ -74,7 +74,7 @@ static EMPTIED: &'static str = "INSERT INTO page2 SELECT no, version FROM page; 
 fn opened<'a>(alloc: Global, limits: &'a Limits, tables: &'a str, second: &'a str) -> SessionEnd {
     let (texts, task) = ([tables, second], SessionTask::Load);
     let files = files_that_stop(alloc, (u64::MAX, u64::MAX));
-    let session = Session {
+    let session = ShelfSession {
         limits,
         texts,
         task,

@@ -2,7 +2,8 @@
 
 use crate::shelf::batches::{Writing, ZEROS};
 use crate::shelf::disks::{
-    Session, SessionEnd, SessionTask, TwoPages, calls_of, files_that_stop, reading, run_session,
+    SessionEnd, SessionTask, ShelfSession, TwoPages, calls_of, files_that_stop, reading,
+    run_session,
 };
 use crate::shelf::shapes::{OLD, OLD_STORE};
 use cb_page::Limits;
@@ -49,7 +50,7 @@ impl Stops {
 /// isn't. `None` where a store that was there after a stop wasn't whole.
 fn count_stops(
     alloc: Global,
-    session: Session<'_>,
+    session: ShelfSession<'_>,
     stores: [TwoPages; 2],
     is_log: bool,
 ) -> Option<Stops> {
@@ -78,7 +79,7 @@ fn stop_at_each_call<'a>(
     text: &'a str,
     stores: [TwoPages; 2],
 ) -> bool {
-    let session = Session {
+    let session = ShelfSession {
         limits,
         texts: [text, ""],
         task: SessionTask::Write(Writing::Once),
