@@ -267,9 +267,9 @@ impl Station {
         number.get() <= self.dispatcher.server().state().commits.last_flushed()
     }
 
-    /// Forgets the commits up to a batch that was written and reported: they leave memory, and so do
-    /// their entries of the history. Its cost grows with their number alone, however many are left.
-    /// Nothing changes if they were forgotten before, or if no commit has a number as low.
+    /// Forgets the commits up to a batch that was written and reported: they leave memory, and so
+    /// do their entries of the history. Its cost grows with their number alone, however many are
+    /// left. Nothing changes if they were forgotten before, or if no commit has a number as low.
     pub fn forget(&mut self, written: Written)
         requires on_disk { written ≤ (server_of self.old).flushed }
         ensures { self.new ≡ forgot self.old written }
