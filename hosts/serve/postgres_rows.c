@@ -160,7 +160,7 @@ static enum outcome take_rows(struct postgres *store, rughvadi_handle *rows, enu
   size_t count = 0, all = (size_t)store->settings->limits.pages * rows_of_page(store);
   bool is_whole = false;
   PGresult *row;
-  while ((row = PQgetResult(store->session)) != NULL) {
+  while ((row = session_next(store)) != NULL) {
     if (PQresultStatus(row) == PGRES_SINGLE_TUPLE && *fault == NO_FAULT) {
       *fault = take_row(store, row, count++, rows);
     }
