@@ -111,8 +111,8 @@ static const char LIVES[] =
     "CREATE TABLE IF NOT EXISTS life(id INTEGER PRIMARY KEY, floor INTEGER NOT NULL,"
     " below INTEGER NOT NULL) STRICT;";
 
-/* A life begins at the bound of the one before, and is written before anybody is answered. Of tables
- * that a server served which kept no lives the first one begins above what clocks gave. */
+/* A life begins at the bound of the one before, and is written before anybody is answered. Of
+ * tables that a server served which kept no lives the first begins above what clocks gave. */
 static const char LIFE[] =
     "INSERT OR IGNORE INTO life VALUES (1, 0, 1 << 61);"
     "UPDATE life SET floor = below, below = below + (1 << 20);"

@@ -64,8 +64,8 @@ static enum outcome take_lock(struct postgres *store) {
 }
 
 /* Ends the session that has the lock in this database: its process, or machine, or network stands
- * still. One whose commit waits for a standby is left alone: another session would wait as well. One
- * that is in a transaction has a minute, since it may be reading a large store. */
+ * still. One whose commit waits for a standby is left alone: another session would wait as well.
+ * One that is in a transaction has a minute, since it may be reading a large store. */
 static enum outcome end_holder(struct postgres *store) {
   PGresult *ended;
   enum outcome outcome =

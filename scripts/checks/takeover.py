@@ -13,11 +13,10 @@
   was answered is there.
 - At last the gateways are stopped in order, and no sanitizer may have found anything.
 
-Server and gateway are built with ASan and UBSan. KEEP names a folder that gets the clients' logs. It
-needs the library (that of LIBRARY, else
-installed by scripts/library, with what stands in crates/rughvadi/out after --built), a C compiler,
-libuv, SQLite and libpq with their headers, and PostgreSQL 15. With 50 kills it takes some fifteen
-minutes. The status is 1 where something failed.
+Server and gateway are built with ASan and UBSan. KEEP names a folder that gets the clients' logs.
+It needs the library (that of LIBRARY, else installed by scripts/library, with what stands in
+crates/rughvadi/out after --built), a C compiler, libuv, SQLite and libpq with their headers, and
+PostgreSQL 15. With 50 kills it takes some fifteen minutes. The status is 1 where something failed.
 """
 from __future__ import annotations
 
