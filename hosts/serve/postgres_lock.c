@@ -75,7 +75,8 @@ static enum outcome end_holder(struct postgres *store) {
                   " AND database = (SELECT oid FROM pg_database WHERE datname = current_database())"
                   " AND (classid::bigint << 32 | objid::bigint) = " KEY
                   " AND wait_event IS DISTINCT FROM 'SyncRep'"
-                  " AND (state = 'idle' OR xact_start < clock_timestamp() - interval '1 minute')",
+                  " AND coalesce(xact_start, '-infinity')"
+                  "  < clock_timestamp() - interval '1 minute'",
                   1, (const char *const[]){store->store}, &ended);
   if (outcome == ASKED && PQntuples(ended) > 0) {
     tell("store %s: its holder was silent, and lost it", store->store);
