@@ -27,6 +27,8 @@ from serving import wait_for
 QUIET = 3.0
 SIZE = 4096
 PASSWORD = "not-to-be-seen"
+# How many sessions sleep.
+ASLEEP = "SELECT count(*) FROM pg_stat_activity WHERE wait_event = 'PgSleep'"
 
 
 class Pair:
@@ -267,8 +269,7 @@ def long_start(pair: Pair) -> str:
         " EXECUTE FUNCTION slowly()"
     )
     with started(pair.words()) as first:
-        asleep = "SELECT count(*) FROM pg_stat_activity WHERE wait_event = 'PgSleep'"
-        begins = wait_for(lambda: pair.first.sql(asleep) == "1")
+        begins = wait_for(lambda: pair.first.sql(ASLEEP) == "1")
         with started(pair.words()):
             serves = announces(first)
     return "" if begins and serves else f"{begins}, {serves}"
@@ -291,10 +292,27 @@ def store_of_another_database(pair: Pair) -> str:
     return "" if right else f"{begins}, {serves}, {answered}, {ended}"
 
 
+def primary_stands_still(pair: Pair) -> str:
+    """A primary stands still while its store is read, and the standby is promoted: the start is
+    given up."""
+    with pair.served():
+        pass
+    pair.first.sql(
+        "ALTER TABLE page RENAME TO pages; CREATE VIEW page AS"
+        " SELECT store, no, part, version, body FROM pages WHERE pg_sleep(60) IS NOT NULL"
+    )
+    with started(pair.words()) as process:
+        reads = wait_for(lambda: pair.first.sql(ASLEEP) == "1")
+        pair.first.send(signal.SIGSTOP)
+        pair.second.promote()
+        ends = wait_for(lambda: process.poll() is not None, 30)
+    return "" if reads and ends and process.returncode == 3 else f"{reads}, {ends}"
+
+
 SCENES: list[Callable[[Pair], str]] = [
     answer_after_a_reconnect, cancelled_wait, old_primary_comes_back, hanging_primary_comes_back,
     standby_is_named_no_more, password_in_the_words, reads_go_on, long_start,
-    store_of_another_database,
+    store_of_another_database, primary_stands_still,
 ]
 
 
