@@ -359,8 +359,8 @@ uint32_t rughvadi_link_commit(rughvadi_link *link, uint64_t *number) {
 }
 
 /* Keeps the Drop of a transaction that said nothing else, in place of one that waits already: the
- * server knows nothing of either. Until it is kept the link is gone. If there is more it is
- * sent. */
+ * server knows nothing of either. Until it is kept the link is gone. If there is more it is sent.
+ */
 static uint32_t keep_drop(rughvadi_link *link) {
   size_t size = 0;
   uint32_t client = 0;
