@@ -11,9 +11,8 @@ said then; without one `times` is left out.
 As many runs go side by side as there are processors, or N. Those that measure, and the wrong
 bodies, which take all processors, come behind the others, each alone. What a run says comes once
 it ends, below a line with its words. The last lines are a table: of each word how many runs passed
-and failed, and the minutes of the clock from the first run's begin to its end, added up. It takes
-some two hours over such a clone, and the gate's time more without one. The status is 1 if a run
-failed.
+and failed, and how many minutes of the clock they took. It takes some two hours over such a clone,
+and the gate's time more without one. The status is 1 if a run failed.
 """
 import os
 import subprocess
@@ -49,7 +48,8 @@ ALONE = [
 PLAY, TESTS = "cb_play/out/cb_play", "cb_tests/out/cb_tests_tests"
 LAYER_TESTS = "cb_layer_tests/out/cb_layer_tests_tests"
 PROGRAMS = dict.fromkeys(["faults", "sides", "schedules", "limits", "refused calls"], [PLAY])
-PROGRAMS |= {"refused plays": [PLAY], "refused run": [TESTS], "load": [LAYER_TESTS, TESTS]}
+PROGRAMS |= {"refused plays": [PLAY], "refused run": [TESTS], "refused growths": [LAYER_TESTS]}
+PROGRAMS |= {"load": [LAYER_TESTS, TESTS]}
 # What several runs take is built by one of them, while the others wait.
 BUILDING = threading.Lock()
 
