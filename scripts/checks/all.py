@@ -31,17 +31,21 @@ from words import WORDS
 
 CHECK = TOP / "scripts/check"
 LISTS = sorted(str(it) for it in (TOP / "crates/cb_play/data").glob("*_*.list"))
+ARCHIVE = TOP / "crates/rughvadi/out/librughvadi.a"
+# What stands for the clone in the words of a run.
+CLONE = "CLONE"
+Runs = list[tuple[str, list[str]]]
 # The runs of each word, in order: side by side, and then one after another.
-RUNS = [
+RUNS: Runs = [
     ("docs", []), ("model", []), ("wrong", ["--list"]),
     ("faults", []), ("sides", LISTS), ("schedules", []), ("schedules", ["lives"]), ("limits", []),
     ("refused", ["calls"]), ("refused", ["plays"]), ("refused", ["run"]),
     ("library", ["--built"]), ("serve", ["--built"]), ("storm", ["--built"]),
     ("takeover", ["--built"]), ("lives", ["--built"]),
     ("files", []), ("refused", ["shelf"]), ("refused", ["station"]), ("killed", []), ("lent", []),
-    ("refused", ["growths"]), ("readme", []),
+    ("refused", ["growths"]), ("readme", ["--built", CLONE]),
 ]
-ALONE = [
+ALONE: Runs = [
     ("load", ["2"]), ("memory", []), ("memory", ["run", "10000", "100000"]), ("wrong", ["--all"]),
 ]
 # What PROGRAM names for a run, where it isn't built anew: a crate and what it left.
@@ -64,11 +68,17 @@ class Ended:
     minutes: float
 
 
-def gate(calls: str | None, below: Path | None, room: Path) -> tuple[Path, list[list[str]]]:
+def gate(calls: str | None, below: Path | None, room: Path) -> tuple[Path, Runs]:
     """The clone that all is done over, and the run of `times` that comes first, if one does."""
     if below:
-        return below, [["times", "--of", calls]] if calls else []
-    return room / "clone", [["times", str(room / "clone")]]
+        return below, [("times", ["--of", calls])] if calls else []
+    return room / "clone", [("times", [CLONE])]
+
+
+def asked(runs: Runs, below: Path, wanted: list[str]) -> list[list[str]]:
+    """The words of those of these runs that are wanted."""
+    there = {CLONE: str(below)}
+    return [[word, *(there.get(it, it) for it in more)] for word, more in runs if word in wanted]
 
 
 @cache
@@ -83,8 +93,7 @@ def program_in(below: Path, named: str) -> Path:
 
 def library_stands(below: Path) -> None:
     """Builds the library for other languages over the clone, if it doesn't stand there."""
-    made = TOP / "crates/rughvadi/out/librughvadi.a"
-    if not made.exists():
+    if not ARCHIVE.exists():
         with building.a_room() as room:
             os.environ["BELOW"] = str(below)
             building.library(room)
@@ -95,6 +104,7 @@ def environment(below: Path, words: list[str]) -> dict[str, str]:
     found = {**os.environ, "BELOW": str(below)}
     if "--built" in words:
         library_stands(below)
+        found["ARCHIVE"] = str(ARCHIVE)
     if words[0] in ("killed", "serve", "storm", "lives"):
         found["PLAY"] = str(program_in(below, PLAY))
     named = PROGRAMS.get(" ".join(words[:2]), PROGRAMS.get(words[0], []))
@@ -155,12 +165,9 @@ def main(words: list[str]) -> int:
     came: dict[str, list[Ended]] = defaultdict(list)
     with building.a_room() as room:
         below, first = gate(os.environ.get("CALLS"), building.named("BELOW"), room)
-        alone, others = ([[word, *more] for word, more in it] for it in (ALONE, RUNS))
-        for runs, at_a_time in ((first, 1), (others, most), (alone, 1)):
-            asked = [it for it in runs if it[0] in wanted]
-            came.update({it[0]: [] for it in asked if it[0] not in came})
-            for ended in side_by_side(below, asked, at_a_time):
+        for runs, at_a_time in ((first, 1), (RUNS, most), (ALONE, 1)):
+            for ended in side_by_side(below, asked(runs, below, wanted), at_a_time):
                 told(ended)
                 came[ended.words[0]].append(ended)
-    table(came)
+    table({word: came[word] for word in WORDS["check"] if word in came})
     return 0 if all(it.is_well for runs in came.values() for it in runs) else 1
