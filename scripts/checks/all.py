@@ -15,14 +15,14 @@ and failed, and how many minutes of the clock they took. It takes some two hours
 and the gate's time more without one. The status is 1 if a run failed.
 """
 import os
+import shutil
 import subprocess
 import threading
 import time
 from collections import defaultdict
-from collections.abc import Iterable, Iterator
+from collections.abc import Callable, Iterable, Iterator
 from concurrent.futures import ThreadPoolExecutor, as_completed
 from dataclasses import dataclass
-from functools import cache
 from pathlib import Path
 
 import building
@@ -39,23 +39,22 @@ Runs = list[tuple[str, list[str]]]
 RUNS: Runs = [
     ("docs", []), ("model", []), ("wrong", ["--list"]),
     ("faults", []), ("sides", LISTS), ("schedules", []), ("schedules", ["lives"]), ("limits", []),
-    ("refused", ["calls"]), ("refused", ["plays"]), ("refused", ["run"]),
+    ("refused", ["calls"]), ("refused", ["plays"]), ("refused", ["run"]), ("refused", ["growths"]),
     ("library", ["--built"]), ("serve", ["--built"]), ("storm", ["--built"]),
     ("takeover", ["--built"]), ("lives", ["--built"]),
     ("files", []), ("refused", ["shelf"]), ("refused", ["station"]), ("killed", []), ("lent", []),
-    ("refused", ["growths"]), ("readme", ["--built", CLONE]),
+    ("readme", ["--built", CLONE]),
 ]
 ALONE: Runs = [
     ("load", ["2"]), ("memory", []), ("memory", ["run", "10000", "100000"]), ("wrong", ["--all"]),
 ]
-# What PROGRAM names for a run, where it isn't built anew: a crate and what it left.
+# What PROGRAM names for a run: what the gate left in the clone's crates, or SHELF.
 PLAY, TESTS = "cb_play/out/cb_play", "cb_tests/out/cb_tests_tests"
-LAYER_TESTS = "cb_layer_tests/out/cb_layer_tests_tests"
+LAYER_TESTS, SHELF = "cb_layer_tests/out/cb_layer_tests_tests", "shelf_files"
 PROGRAMS = dict.fromkeys(["faults", "sides", "schedules", "limits", "refused calls"], [PLAY])
 PROGRAMS |= {"refused plays": [PLAY], "refused run": [TESTS], "refused growths": [LAYER_TESTS]}
-PROGRAMS |= {"load": [LAYER_TESTS, TESTS]}
-# What several runs take is built by one of them, while the others wait.
-BUILDING = threading.Lock()
+PROGRAMS |= {"load": [LAYER_TESTS, TESTS], "files": [SHELF], "refused shelf": [SHELF]}
+LOCKS: dict[Path, threading.Lock] = {}
 
 
 @dataclass(frozen=True)
@@ -81,44 +80,39 @@ def asked(runs: Runs, below: Path, wanted: list[str]) -> list[list[str]]:
     return [[word, *(there.get(it, it) for it in more)] for word, more in runs if word in wanted]
 
 
-@cache
-def program_in(below: Path, named: str) -> Path:
-    """A program, or tests, that the gate left in the clone, else built over it."""
-    name, program = named.partition("/")[0], below / "crates" / named
-    if program.exists():
-        return program
-    flags = ["--test"] if named in (TESTS, LAYER_TESTS) else []
-    return building.linked(TOP / "crates" / name, building.libraries_of(name), below, *flags)
+def standing(made: Path, build: Callable[[Path], Path]) -> Path:
+    """A file that several runs take: the first of them builds it, while the others wait."""
+    with LOCKS.setdefault(made, threading.Lock()), building.a_room() as room:
+        if not made.exists() and (built := build(room)) != made:
+            shutil.copy(built, made)
+    return made
 
 
-def library_stands(below: Path) -> None:
-    """Builds the library for other languages over the clone, if it doesn't stand there."""
-    if not ARCHIVE.exists():
-        with building.a_room() as room:
-            os.environ["BELOW"] = str(below)
-            building.library(room)
+def program_in(below: Path, room: Path, named: str) -> Path:
+    """A program, or tests, that the gate left in the clone; that of shelves is built over it."""
+    if named == SHELF:
+        return standing(room / SHELF, building.shelf_files)
+    return building.built(below / "crates" / named, f"the gate left none in {below}")
 
 
-def environment(below: Path, words: list[str]) -> dict[str, str]:
+def environment(below: Path, room: Path, words: list[str]) -> dict[str, str]:
     """What a run is done with, and takes from the clone."""
-    found = {**os.environ, "BELOW": str(below)}
+    found = dict(os.environ)
     if "--built" in words:
-        library_stands(below)
-        found["ARCHIVE"] = str(ARCHIVE)
+        found["ARCHIVE"] = str(standing(ARCHIVE, building.library))
     if words[0] in ("killed", "serve", "storm", "lives"):
-        found["PLAY"] = str(program_in(below, PLAY))
+        found["PLAY"] = str(program_in(below, room, PLAY))
     named = PROGRAMS.get(" ".join(words[:2]), PROGRAMS.get(words[0], []))
-    programs = os.pathsep.join(str(program_in(below, it)) for it in named)
+    programs = os.pathsep.join(str(program_in(below, room, it)) for it in named)
     return {**found, "PROGRAM": programs} if programs else found
 
 
-def one_run(below: Path, words: list[str]) -> Ended:
+def one_run(below: Path, room: Path, words: list[str]) -> Ended:
     """Does a run to its end."""
     both = {"stdout": subprocess.PIPE, "stderr": subprocess.STDOUT, "stdin": subprocess.DEVNULL}
     start = time.time()
     try:
-        with BUILDING:
-            env = environment(below, words)
+        env = environment(below, room, words)
         done = subprocess.run([CHECK, *words], **both, env=env, check=False)
         is_well, said = done.returncode == 0, done.stdout.decode(errors="replace")
     except building.NotBuilt as why:
@@ -126,10 +120,12 @@ def one_run(below: Path, words: list[str]) -> Ended:
     return Ended(words, is_well, said, (time.time() - start) / 60)
 
 
-def side_by_side(below: Path, runs: Iterable[list[str]], most: int) -> Iterator[Ended]:
+def side_by_side(
+    below: Path, room: Path, runs: Iterable[list[str]], most: int
+) -> Iterator[Ended]:
     """Does so many runs at a time; each as it ends."""
     with ThreadPoolExecutor(most) as pool:
-        for done in as_completed([pool.submit(one_run, below, words) for words in runs]):
+        for done in as_completed([pool.submit(one_run, below, room, words) for words in runs]):
             yield done.result()
 
 
@@ -165,8 +161,9 @@ def main(words: list[str]) -> int:
     came: dict[str, list[Ended]] = defaultdict(list)
     with building.a_room() as room:
         below, first = gate(os.environ.get("CALLS"), building.named("BELOW"), room)
+        os.environ["BELOW"] = str(below)
         for runs, at_a_time in ((first, 1), (RUNS, most), (ALONE, 1)):
-            for ended in side_by_side(below, asked(runs, below, wanted), at_a_time):
+            for ended in side_by_side(below, room, asked(runs, below, wanted), at_a_time):
                 told(ended)
                 came[ended.words[0]].append(ended)
     table({word: came[word] for word in WORDS["check"] if word in came})
