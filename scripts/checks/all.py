@@ -115,7 +115,7 @@ def one_run(below: Path, room: Path, words: list[str]) -> Ended:
         env = environment(below, room, words)
         done = subprocess.run([CHECK, *words], **both, env=env, check=False)
         is_well, said = done.returncode == 0, done.stdout.decode(errors="replace")
-    except building.NotBuilt as why:
+    except (building.NotBuilt, OSError, subprocess.SubprocessError) as why:
         is_well, said = False, f"{why}\n"
     return Ended(words, is_well, said, (time.time() - start) / 60)
 
