@@ -13,6 +13,7 @@
 # minute once the program is built.
 set -u
 cd "$(dirname "$0")/../.."
+. scripts/checks/locked.sh
 room=$(mktemp -d)
 trap 'rm -rf "$room"' EXIT
 program=$(python3 scripts/building.py play "$room") || exit 2
@@ -63,8 +64,10 @@ wanted "a full disk for the standard error too" 5 ""
 wanted "a refusal on a full disk" 5 ""
 
 # the reader is gone before the program writes
-{ sleep 0.2; "$program" play "$config" "$schedule" 2>"$room/err"; echo $? >"$room/status"; } | true
-status=$(cat "$room/status")
+mkfifo "$room/pipe"
+exec 8<>"$room/pipe" 9>"$room/pipe" 8<&-
+"$program" play "$config" "$schedule" 2>"$room/err" >&9; status=$?
+exec 9>&-
 wanted "a closed pipe" 5 ""
 
 "$program" play "$config" "$schedule" >&- 2>"$room/err"; status=$?
@@ -143,12 +146,9 @@ prints_nothing() {
 
 if command -v sqlite3 >/dev/null; then
   "$program" run "$counters" "$room/locked.db" >"$room/out" 2>"$room/err"
-  (echo "PRAGMA locking_mode=EXCLUSIVE; BEGIN EXCLUSIVE;"; sleep 4) \
-    | sqlite3 "$room/locked.db" >/dev/null &
-  holder=$!
-  sleep 1
+  lock_file "$room" "$room/locked.db"
   "$program" run "$counters" "$room/locked.db" >"$room/out" 2>"$room/err"; status=$?
-  wait "$holder"
+  let_go
   wanted "a run over a locked file" 3 "store: Store"
   prints_nothing "a run over a locked file"
 else

@@ -11,6 +11,7 @@
 # minutes over libraries that are checked already. The checks themselves take seconds.
 set -u
 top=$(cd "$(dirname "$0")/../.." && pwd)
+. "$top/scripts/checks/locked.sh"
 room=$(mktemp -d)
 trap 'rm -rf "$room"' EXIT
 bad=0
@@ -125,11 +126,9 @@ by_sqlite "$room/a.db" ""
 dd if=/dev/zero of="$room/a.db" bs=1 seek=100 count=200 conv=notrunc 2>/dev/null
 refused "a damaged database" "connect: 2 Store"
 by_sqlite "$room/a.db" ""
-(echo "PRAGMA locking_mode=EXCLUSIVE; BEGIN EXCLUSIVE;"; sleep 4) \
-  | sqlite3 "$room/a.db" >/dev/null &
-sleep 1
+lock_file "$room" "$room/a.db"
 refused "a locked file" "connect: 2 Store"
-wait
+let_go
 by_sqlite "$room/a.db" ""
 rm -f "$room"/a.db-*
 chmod 755 "$room"; chmod 444 "$room/a.db"
