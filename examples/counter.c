@@ -2,8 +2,8 @@
  *
  * ADDRESSES are those of the store's gateways, with commas between them: where a connection ends it
  * goes on at the next one. Page 0 of the store has the counter, and behind it how often each client
- * has added to it. By its own number a client that had to connect anew knows whether its last commit
- * was done, though no answer came. So the counter is right whatever is killed meanwhile.
+ * has added to it. By its own number a client that had to connect anew knows whether its last
+ * commit was done, though no answer came. So the counter is right whatever is killed meanwhile.
  */
 #include <rughvadi_connect.h>
 

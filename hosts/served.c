@@ -52,6 +52,11 @@ static void die(const char *format, ...) {
 
 /* ---- bytes ---- */
 
+#if defined(__GNUC__) && !defined(__clang__)
+/* GCC 12 takes the bytes of a connection for lost where a variable says which one it is. */
+#pragma GCC diagnostic ignored "-Wanalyzer-malloc-leak"
+#endif
+
 struct bytes {
   uint8_t *at;
   size_t size, room;
@@ -106,8 +111,8 @@ static const char LIVES[] =
     "CREATE TABLE IF NOT EXISTS life(id INTEGER PRIMARY KEY, floor INTEGER NOT NULL,"
     " below INTEGER NOT NULL) STRICT;";
 
-/* A life begins at the bound of the one before, and is written before anybody is answered. Of tables
- * that a server served which kept no lives the first one begins above what clocks gave. */
+/* A life begins at the bound of the one before, and is written before anybody is answered. Of
+ * tables that a server served which kept no lives the first begins above what clocks gave. */
 static const char LIFE[] =
     "INSERT OR IGNORE INTO life VALUES (1, 0, 1 << 61);"
     "UPDATE life SET floor = below, below = below + (1 << 20);"
@@ -228,9 +233,10 @@ static void store_open(struct store *store, const char *path, const rughvadi_lim
 }
 
 static void store_close(struct store *store) {
-  sqlite3_stmt *all[] = {store->begin,   store->commit, store->mark,
-                         store->version, store->part,   store->raise};
-  for (size_t at = 0; at < sizeof all / sizeof *all; at++) {
+  enum { STATEMENTS = 6 };
+  sqlite3_stmt *const all[STATEMENTS] = {store->begin,   store->commit, store->mark,
+                                         store->version, store->part,   store->raise};
+  for (size_t at = 0; at < STATEMENTS; at++) {
     sqlite3_finalize(all[at]);
   }
   sqlite3_close(store->database);

@@ -86,9 +86,10 @@ static bool bound_sends(int socket, struct timespec most) {
 
 /* What is left until then, and never so little that it would be no bound. */
 static struct timespec bound_until(moment until) {
+  static const struct timespec unbounded = {0};
   struct timespec left = left_until(until);
   left.tv_nsec += left.tv_sec == 0 && left.tv_nsec < 1000 ? 1000 : 0;
-  return until == NEVER ? (struct timespec){0} : left;
+  return until == NEVER ? unbounded : left;
 }
 
 /* Connects the socket within so many milliseconds: ETIMEDOUT. */

@@ -78,8 +78,8 @@ static uint32_t fetch_oldest(rughvadi_link *link, size_t *size) {
 }
 
 /* Sends a Drop that waits, else the oldest frame that was said, which it fetches: RUGHVADI_NOTHING
- * where all is sent. From before it is fetched until it is sent whole the link is gone. So it stays,
- * whatever ends this early: a jump out of a signal's handler and the thread's end, too. */
+ * where all is sent. From before it is fetched until it is sent whole the link is gone. So it
+ * stays, whatever ends this early: a jump out of a signal's handler and the thread's end, too. */
 static uint32_t send_oldest(rughvadi_link *link) {
   if (link->gone) {
     return RUGHVADI_LINK_CLOSED;
@@ -359,7 +359,8 @@ uint32_t rughvadi_link_commit(rughvadi_link *link, uint64_t *number) {
 }
 
 /* Keeps the Drop of a transaction that said nothing else, in place of one that waits already: the
- * server knows nothing of either. Until it is kept the link is gone. If there is more it is sent. */
+ * server knows nothing of either. Until it is kept the link is gone. If there is more it is sent.
+ */
 static uint32_t keep_drop(rughvadi_link *link) {
   size_t size = 0;
   uint32_t client = 0;

@@ -61,7 +61,6 @@ struct connection {
   uint64_t incarnation;
   bool is_welcomed; /* by the server */
   uint64_t began;   /* since when a greeting or the rest of a frame is awaited; 0: none is */
-  uint64_t asked;   /* since when an answer to the server is awaited; 0: none is */
   uint64_t ending;  /* since when it is to be closed, once what waits is out; 0: it isn't */
   uint8_t address[ADDRESS]; /* whose count it is in; zeros where none is kept */
   char name[NAME];          /* what a line of the log calls its peer */

@@ -53,18 +53,16 @@ void gateway_stop(struct gateway *gateway, int status) {
 static void reread(uv_signal_t *signal, int number) {
   struct gateway *gateway = signal->data;
   struct tokens former = gateway->tokens, read;
+  bool is_right = tokens_read(&read, gateway->tokens_path);
   (void)number;
-  if (!tokens_read(&read, gateway->tokens_path)) {
-    log_line(LEVEL_ERROR, "%s: the tokens stay as they were", gateway->tokens_path);
-    return;
-  }
-  gateway->tokens = read;
-  for (size_t at = 0; at < gateway->places.count; at++) {
+  gateway->tokens = is_right ? read : former;
+  for (size_t at = 0; at < gateway->places.count && is_right; at++) {
     store_keep(&gateway->stores[at], &former);
   }
   explicit_bzero(&former, sizeof former);
   explicit_bzero(&read, sizeof read);
-  log_line(LEVEL_INFO, "%s: the tokens were read again", gateway->tokens_path);
+  log_line(is_right ? LEVEL_INFO : LEVEL_ERROR, "%s: the tokens %s", gateway->tokens_path,
+           is_right ? "were read again" : "stay as they were");
 }
 
 static void signalled(uv_signal_t *signal, int number) {

@@ -106,11 +106,12 @@ static void end_input(struct server *server) {
 static void exited(uv_process_t *process, int64_t status, int signal) {
   struct server *server = process->data;
   struct gateway *gateway = server->store->gateway;
-  if (status != 0 || signal != 0 || !gateway->is_stopping) {
+  bool is_wrong = (status != 0 || signal != 0) && !(server->is_let_go && signal == SIGTERM);
+  if (is_wrong || !gateway->is_stopping) {
     log_line(LEVEL_WARNING, "store %s: its server ended with status %d, signal %d", name_of(server),
              (int)status, signal);
   }
-  if (gateway->is_stopping && (status != 0 || signal != 0)) {
+  if (gateway->is_stopping && is_wrong) {
     gateway->status = 1;
   }
   server->failures++;
@@ -412,6 +413,7 @@ void server_stop(struct server *server) {
     return;
   }
   if (!server->is_serving && is_running(server)) { /* it waits, and has nothing to write */
+    server->is_let_go = true;
     uv_process_kill(&server->process, SIGTERM);
   }
   server->is_ending = true;

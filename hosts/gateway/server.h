@@ -25,6 +25,7 @@ struct server {
   bool is_serving;   /* it serves the store: at once, or once it has announced its life */
   bool has_spoken;   /* it said something since it was started */
   bool is_ending;    /* it is told no more, and is to end */
+  bool is_let_go;    /* it was ended as it waited for its store */
   bool is_told;      /* that another server holds the store was said */
   unsigned failures; /* how often it ended since it last said anything */
   unsigned pauses;   /* since its process ended */

@@ -1,6 +1,6 @@
 //! Links the static library, which `scripts/library DIR` builds. It is in the folder that the
-//! variable RUGHVADI_LIB_DIR names. Where that isn't set it is in DIR/lib, if this is the crate that
-//! was installed there, else where pkg-config says.
+//! variable RUGHVADI_LIB_DIR names. Where that isn't set it is in DIR/lib, if this is the crate
+//! that was installed there, else where pkg-config says.
 use std::env;
 use std::path::{Path, PathBuf};
 use std::process::{exit, Command};

@@ -5,8 +5,8 @@
 /* Nanoseconds. A sync that takes less than that is fast. */
 static const uint64_t SECOND = 1000000000, WAIT_MOST = 10000000, FAST = 300000;
 
-/* For so many batches it is tried whether waits pay. What is better stays for as many, then for twice
- * as many, and so on. */
+/* For so many batches it is tried whether waits pay. What is better stays for as many, then for
+ * twice as many, and so on. */
 enum { TRIAL = 16, COURSE_MOST = 512 };
 
 /* After waits in vain, one after another, nobody is waited for: for 0, 2, 6 and 14 batches. */

@@ -1,12 +1,12 @@
-/* When the next batch goes to disk. A batch takes one sync, whatever is in it, so it may pay to wait
- * for clients that will commit again in a moment; but nothing is written meanwhile. Where syncs are
- * fast it may be better that some clients' commits go while others make theirs.
+/* When the next batch goes to disk. A batch takes one sync, whatever is in it, so it may pay to
+ * wait for clients that will commit again in a moment; but nothing is written meanwhile. Where
+ * syncs are fast it may be better that some clients' commits go while others make theirs.
  *
- * All who were in the last two batches are waited for: for half as long as the last batch waited for
- * its sync at most, and ten milliseconds; and not for a while where nobody came. Where the sync took
- * less than 0.3 milliseconds, it is tried whether that pays: now and then a few batches go without
- * waits, or with waits as long as a sync, and what gives more commits in a time stays; the longer,
- * the oftener it was the better. */
+ * All who were in the last two batches are waited for: for half as long as the last batch waited
+ * for its sync at most, and ten milliseconds; and not for a while where nobody came. Where the sync
+ * took less than 0.3 milliseconds, it is tried whether that pays: now and then a few batches go
+ * without waits, or with waits as long as a sync, and what gives more commits in a time stays; the
+ * longer, the oftener it was the better. */
 #ifndef SERVE_PACE_H
 #define SERVE_PACE_H
 

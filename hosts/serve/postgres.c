@@ -52,8 +52,8 @@ static enum fault begin_writing(struct postgres *store, struct writing *writing,
 
 /* Whether the result says that it was written. */
 static bool is_written(const PGresult *result, size_t rows, bool *is_misshapen) {
-  bool has_mark = strtoull(PQgetvalue(result, 0, 0), NULL, 10) == 1;
-  *is_misshapen = has_mark && strtoull(PQgetvalue(result, 0, 1), NULL, 10) != rows;
+  bool has_mark = PQntuples(result) == 1;
+  *is_misshapen = has_mark && strtoull(PQgetvalue(result, 0, 0), NULL, 10) != rows;
   return has_mark;
 }
 

@@ -68,6 +68,9 @@ bool session_prepare(struct postgres *store);
 enum outcome session_ask(struct postgres *store, const char *text, int count,
                          const char *const *values, PGresult **result);
 
+/* The next result of what was sent; NULL where there is none, or the session is of no use. */
+PGresult *session_next(struct postgres *store);
+
 /* Runs the prepared statement of a batch, and asks behind its commit whether a standby is named
  * still, where one is required: what was committed meanwhile waited for none if it is alone. */
 enum outcome session_write(struct postgres *store, const char *const *values, const int *lengths,

@@ -63,16 +63,20 @@ static enum outcome take_lock(struct postgres *store) {
   return ask_of_store(store, "SELECT pg_advisory_lock(" KEY ")");
 }
 
-/* Ends the session that has the lock: its process, or machine, or network stands still. One whose
- * commit waits for a standby is left alone: another session would wait as well. */
+/* Ends the session that has the lock in this database: its process, or machine, or network stands
+ * still. One whose commit waits for a standby is left alone: another session would wait as well.
+ * One that is in a transaction has a minute, since it may be reading a large store. */
 static enum outcome end_holder(struct postgres *store) {
   PGresult *ended;
   enum outcome outcome =
       session_ask(store,
                   "SELECT pg_terminate_backend(pid) FROM pg_locks JOIN pg_stat_activity USING (pid)"
                   " WHERE locktype = 'advisory' AND granted AND objsubid = 1"
+                  " AND database = (SELECT oid FROM pg_database WHERE datname = current_database())"
                   " AND (classid::bigint << 32 | objid::bigint) = " KEY
-                  " AND wait_event IS DISTINCT FROM 'SyncRep'",
+                  " AND wait_event IS DISTINCT FROM 'SyncRep'"
+                  " AND coalesce(xact_start, '-infinity')"
+                  "  < clock_timestamp() - interval '1 minute'",
                   1, (const char *const[]){store->store}, &ended);
   if (outcome == ASKED && PQntuples(ended) > 0) {
     tell("store %s: its holder was silent, and lost it", store->store);

@@ -21,16 +21,20 @@ static const char TABLES[] =
     " END IF; END $$";
 
 /* One statement, so one transaction: with another life, or another last commit than $4, it changes
- * nothing. READ COMMITTED looks again at a row that it waited for. */
+ * nothing, and answers no row; else one, with the number of the pages' rows that it wrote. READ
+ * COMMITTED looks again at a row that it waited for. Without OFFSET 0 the planner may walk all rows
+ * of the store for each one that is written, where it takes the store for small. */
 const char rows_write[] =
     "WITH own AS (UPDATE mark SET commits = $3, below = $5, beat = beat + 1"
     "  WHERE store = $1 AND floor = $2 AND commits = $4"
-    "  AND (NOT $10::boolean OR current_setting('synchronous_standby_names') <> '') RETURNING 1),"
+    "  AND (NOT $10::boolean OR current_setting('synchronous_standby_names') <> '')"
+    "  RETURNING store),"
     " written AS (UPDATE page SET version = b.version, body = b.body"
-    "  FROM unnest($6::int[], $7::int[], $8::bigint[], $9::bytea[]) b(no, part, version, body)"
-    "  WHERE page.store = $1 AND page.no = b.no AND page.part = b.part"
-    "  AND EXISTS (SELECT FROM own) RETURNING 1)"
-    "SELECT (SELECT count(*) FROM own), (SELECT count(*) FROM written)";
+    "  FROM (SELECT own.store, b.* FROM own,"
+    "   unnest($6::int[], $7::int[], $8::bigint[], $9::bytea[]) b(no, part, version, body)"
+    "   OFFSET 0) b"
+    "  WHERE page.store = b.store AND page.no = b.no AND page.part = b.part RETURNING 1)"
+    "SELECT (SELECT count(*) FROM written) FROM own";
 
 /* How many rows a page has. */
 static size_t rows_of_page(const struct postgres *store) {
@@ -156,7 +160,7 @@ static enum outcome take_rows(struct postgres *store, rughvadi_handle *rows, enu
   size_t count = 0, all = (size_t)store->settings->limits.pages * rows_of_page(store);
   bool is_whole = false;
   PGresult *row;
-  while ((row = PQgetResult(store->session)) != NULL) {
+  while ((row = session_next(store)) != NULL) {
     if (PQresultStatus(row) == PGRES_SINGLE_TUPLE && *fault == NO_FAULT) {
       *fault = take_row(store, row, count++, rows);
     }

@@ -274,6 +274,10 @@ static bool await_result(struct postgres *store) {
   return PQstatus(store->session) == CONNECTION_OK;
 }
 
+PGresult *session_next(struct postgres *store) {
+  return await_result(store) ? PQgetResult(store->session) : NULL;
+}
+
 /* The last result of the statement that was sent: what the commit itself says comes behind the
  * statement's. NULL where it isn't whole. */
 static PGresult *result_of(struct postgres *store) {

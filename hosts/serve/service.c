@@ -260,7 +260,8 @@ static bool add(const struct service *service, int file, uint32_t events) {
   return epoll_ctl(service->watch, EPOLL_CTL_ADD, file, &event) == 0;
 }
 
-/* Makes what the threads wait for. One of them hears of bytes, one of the clock, both of the end. */
+/* Makes what the threads wait for. One of them hears of bytes, one of the clock, both of the end
+ * of all. */
 static enum fault make_watch(struct service *service) {
   service->watch = epoll_create1(EPOLL_CLOEXEC);
   service->clock = timerfd_create(CLOCK_MONOTONIC, TFD_CLOEXEC);

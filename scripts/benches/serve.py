@@ -11,7 +11,9 @@ and pgbench, without the standby and with it, where a connection updates a row w
 prints commits a second, and at the end each as a share of its peers: the median of the turns, and
 the range. Then, with each sync five milliseconds longer: eight clients at one store, and at four
 stores eight each. Last, clients that fight for two pages (serve_fights.py). With
-SYNC=MICROSECONDS each sync of all takes so much longer.
+SYNC=MICROSECONDS each sync of all takes so much longer. With POSTGRES=1 what has no part in
+PostgreSQL is left out. With AHEAD=1 all that is timed goes before the machine's other work, which
+needs root: so ratios say something where there is such work, but for what that does to caches.
 
 It needs the library (that of LIBRARY, else installed by scripts/library, with what stands in
 crates/rughvadi/out if `--built` is said first), `cb_play` (that of PLAY, else built), libuv,
@@ -173,6 +175,8 @@ Way = Callable[[Programs, Path, int, float], str]
 def ways_of(alone: Postgres | None, pair: Postgres | None) -> dict[str, Way]:
     """All that is timed, in turn."""
     ways: dict[str, Way] = {PLAY: by_gateway, FILE: by_engine, HOST: by_served, PLAIN: by_plain}
+    if os.environ.get("POSTGRES"):
+        ways.clear()
     if alone and pair:
         ways[DATABASE] = lambda *given: by_engine(*given, alone.database())
         ways[BENCH] = lambda it, room, *given: alone.commits(*given)
@@ -249,10 +253,14 @@ def main(words: list[str]) -> int:
         )
         if slower := os.environ.get("SYNC"):
             os.environ.update(LD_PRELOAD=str(it.slow_sync), SYNC_MICROSECONDS=slower)
+        if os.environ.get("AHEAD"):
+            os.sched_setscheduler(0, os.SCHED_RR, os.sched_param(1))
         figures: Figures = {}
         for number in range(1, int(turns) + 1):
             turn(number, it, room, float(seconds), figures)
         compare(figures)
+        if os.environ.get("POSTGRES"):
+            return 0
         for number in range(1, int(turns) + 1):
             several(number, it, room, float(seconds))
             serve_fights.turn(number, it, room, float(seconds))

@@ -16,6 +16,10 @@ REFUSED = ("not proved", "no proof")
 PROVED = ("proved", "no holes", "depends on a hole")
 # What a proof file says of a name that an edit took away.
 NAMES = re.compile(r"has no field|is not in scope|has no `|was not admitted")
+# A goal of a function that is open, and that no proof file is about.
+OPEN = re.compile(r"^note: (src/\S+?):(\d+):\d+: it is not proved that .*?(`[^`]+`)", re.M)
+# Where a function stands: its file, and the numbers of its lines from 1 on.
+Place = tuple[str, range]
 # The seconds that a command may take.
 LIMIT = 3600
 # A fault of the text itself, which the prover doesn't reach.
@@ -102,17 +106,32 @@ def read_until(made: subprocess.Popen, asked: Collection[str]) -> str:
     return "".join(lines)
 
 
-def goal_of(said: str, path: str) -> str | None:
-    """The first goal of a function that isn't proved, as a check tells it; None where what is told
-    is of names alone, or of other functions."""
+def goal_of(said: str, path: str, place: Place | None = None) -> str | None:
+    """The first goal of a function that isn't proved, as a check tells it: in the function's line,
+    in its proof files, or in a note of its place. None where what is told is of names alone, or of
+    other functions."""
     line = dict(LINE.findall(said)).get(path, "")
     if not line.startswith(REFUSED):
         return None
     if open_goal := re.search(r"did not prove (`[^`]+`)", line):
         return open_goal[1]
-    folder = re.escape(path.replace("::", "/"))
-    told = re.findall(rf"^(?:\./)?proofs/{folder}/\w+\.antt:[\d:]+ error: (.*)$", said, re.M)
-    return next((it for it in told if not NAMES.search(it)), None)
+    folder = re.escape("proofs/" + path.replace("::", "/"))
+    told = [it for _, it in errors_of(said, rf"{folder}/\w+") if not NAMES.search(it)]
+    return next(iter(told), None) or open_at(said, place)
+
+
+def errors_of(said: str, files: str = r"\S+") -> list[tuple[str, str]]:
+    """The errors of a check in proof files of these names, each with its file."""
+    found = re.findall(rf"^(?:\./)?({files})\.antt:[\d:]+ error: (.*(?:\n  .*)*)", said, re.M)
+    return [(file, " ".join(it.split())) for file, it in found]
+
+
+def open_at(said: str, place: Place | None) -> str | None:
+    """The first goal that a check says to be open at a function's place, where no proof file names
+    it."""
+    notes = OPEN.findall(said) if place else []
+    at = (goal for file, line, goal in notes if file == place[0] and int(line) in place[1])
+    return next(at, None)
 
 
 def is_own(line: str) -> bool:

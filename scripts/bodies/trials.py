@@ -12,8 +12,8 @@ from pathlib import Path
 import building
 from bodies import copies
 from bodies.edits import Edit
-from bodies.prover import COMPILES, Prover, Said, goal_of, is_own
-from bodies.sources import function_of
+from bodies.prover import COMPILES, NAMES, OPEN, Place, Prover, Said, errors_of, goal_of, is_own
+from bodies.sources import function_of, functions_of
 from building import TOP
 
 PARTS = ("src", "specs", "proofs")
@@ -67,17 +67,25 @@ def try_as_copies(prover: Prover, name: str, edits: list[Edit]) -> Came:
             said = prover.check(crate, words, set(paths))
             came.add(said)
             wrong = faulty(crate, said, tried)
+            goals = {it: goal_of(said.log, it.path(), place_of(crate, it)) for it in tried}
         if said.is_verdict() or not wrong:
             break
         came.bad.update({it.edit: error for it, error in wrong.items()})
         tried = [it for it in tried if it not in wrong]
     for it in tried:
-        goal = goal_of(said.log, it.path())
-        if goal:
+        if goal := goals[it]:
             came.refused[it.edit] = f"{it.path()} {goal}"
         else:
             came.left.append(it.edit)
     return came
+
+
+def place_of(crate: Path, copy: copies.Copy) -> Place | None:
+    """Where a wrong body's function stands."""
+    for it in functions_of(crate.name, copy.file, (crate / copy.file).read_text()):
+        if it.name == copy.name:
+            return copy.file, range(it.first + 1, it.last + 2)
+    return None
 
 
 def faulty(crate: Path, said: Said, tried: list[copies.Copy]) -> dict[copies.Copy, str]:
@@ -112,8 +120,9 @@ def try_in_place(prover: Prover, name: str, group: list[Edit]) -> Came:
     came.add(said)
     for edit, of in found.items():
         line = told_of(said, of)
-        if line and is_own(line):
-            came.refused[edit] = f"{of.name} {goal_of(said.log, '::'.join(of.path or ())) or line}"
+        goal = goal_of(said.log, "::".join(of.path)) if of and of.path else line
+        if goal and is_own(line):
+            came.refused[edit] = f"{of.name} {goal}"
         else:
             came.left.append(edit)
     return came
@@ -173,6 +182,18 @@ def try_one(prover: Prover, crate: Path, words: list[str], edit: Edit, came: Cam
     if said.status == 0 and "logic=proved" in said.log:
         came.proved.append(edit)
     elif said.status == 1 and said.is_verdict():
-        came.refused[edit] = f"alone, {(errors or ['it is not proved'])[0]}"
+        told_alone(said, edit, came)
     else:
         came.bad[edit] = (errors or said.log.strip().splitlines()[-1:] or ["nothing is said"])[0]
+
+
+def told_alone(said: Said, edit: Edit, came: Came) -> None:
+    """Notes what refuses a body that was tried alone: a goal. Names that proof files give to goals
+    that it hasn't don't tell that it is wrong."""
+    errors = [f"{file}: {error}" for file, error in errors_of(said.log)]
+    goals = [it for it in errors if not NAMES.search(it)]
+    goals += [f"{file}:{line} {goal}" for file, line, goal in OPEN.findall(said.log)]
+    if goals or not errors:
+        came.refused[edit] = f"alone, {(goals or ['it is not proved'])[0]}"
+    else:
+        came.bad[edit] = f"names of proof files alone refuse it: {errors[0]}"

@@ -15,6 +15,8 @@
   headings where it names one.
 - README names no folder or file of the repository that isn't there, and no page names a word of
   scripts/check or scripts/bench that there isn't.
+- No line of a source, a spec, a script, a host or a page has more than 100 columns. Attributes and
+  imports, which the formatter joins, may be longer, and so may edits, data and rows of tables.
 - Each edit of the gate and each wrong body can be applied: its old texts stand exactly once in
   their files. None stands in a crate twice.
 
@@ -190,6 +192,24 @@ def bad_edits() -> list[str]:
     return [f"{name}: {fault}" for name in each for fault in edits.faults(name)]
 
 
+# Where lines may be as long as they are.
+LONG_PATHS = re.compile(
+    r"(^|/)(proofs|data|must-fail|wrong_bodies|charts)/|(^|/)(stdin|stdout|crates\.txt)$"
+)
+LONG_LINES = re.compile(r"\s*(#\[|(ghost |pub )*use |\|)")
+
+
+def wide_lines() -> list[str]:
+    """Lines that have more than 100 columns, and may not."""
+    words = ["git", "-C", str(TOP), "ls-files", "--cached", "--others", "--exclude-standard"]
+    listed = subprocess.run(words, capture_output=True, text=True, check=True).stdout.splitlines()
+    paths = [TOP / it for it in listed if not LONG_PATHS.search(it)]
+    texts = {path: path.read_text() for path in paths if path.exists()}
+    lines = [(path, line) for path, text in texts.items() for line in text.splitlines()]
+    wide = [it for it in lines if len(it[1]) > 100 and not LONG_LINES.match(it[1])]
+    return [f"{path.relative_to(TOP)}: {len(line)} columns: {line.strip()}" for path, line in wide]
+
+
 def main(_words: list[str]) -> int:
     wrong = []
     for crate in EXAMPLES:
@@ -198,7 +218,7 @@ def main(_words: list[str]) -> int:
     for name in PROGRAMS:
         wrong += other_programs(TOP / name)
     wrong += misplaced() + lost_links() + lost_sources() + other_pictures()
-    wrong += bad_edits() + unprinted()
+    wrong += bad_edits() + unprinted() + wide_lines()
     drawn = [(group, list(crates)) for group, crates in mapped()]
     if drawn != [(group, list(crates)) for group, crates in groups()]:
         wrong.append("the map isn't that of crates.txt")

@@ -14,8 +14,8 @@ from pathlib import Path
 from typing import Callable, Iterator
 
 from checks.frames import (
-    ASK_READ, ASK_WRITE, COMMIT, DONE, GRANTED, HELLO, WELCOME, frame, of_commit, of_page, of_read,
-    of_write,
+    ASK_READ, ASK_WRITE, COMMIT, DONE, GRANTED, HEADER, HELLO, WELCOME, frame, of_commit, of_page,
+    of_read, of_write,
 )
 from checks.serve_input import CONFIG
 from checks.serve_lives import Server
@@ -27,6 +27,8 @@ from serving import wait_for
 QUIET = 3.0
 SIZE = 4096
 PASSWORD = "not-to-be-seen"
+# How many sessions sleep.
+ASLEEP = "SELECT count(*) FROM pg_stat_activity WHERE wait_event = 'PgSleep'"
 
 
 class Pair:
@@ -240,9 +242,77 @@ def reads_go_on(pair: Pair) -> str:
     return "" if right else f"{waited}, {heard}, {answered}, {welcome}"
 
 
+@contextlib.contextmanager
+def started(words: list[str]) -> Iterator[subprocess.Popen]:
+    process = subprocess.Popen(words, **PIPES)
+    try:
+        yield process
+    finally:
+        process.kill()
+        process.communicate()
+
+
+def announces(process: subprocess.Popen) -> bool:
+    """Whether it announces its life."""
+    came = select.select([process.stdout], [], [], 30)[0]
+    return bool(came) and len(process.stdout.read(HEADER.size)) == HEADER.size
+
+
+def long_start(pair: Pair) -> str:
+    """A start that takes longer than another one waits for a sign of life isn't ended by that."""
+    with pair.served():
+        pass
+    pair.first.sql(
+        "CREATE FUNCTION slowly() RETURNS trigger LANGUAGE plpgsql"
+        " AS 'BEGIN PERFORM pg_sleep(7); RETURN NEW; END';"
+        "CREATE TRIGGER slowly BEFORE UPDATE ON mark FOR EACH ROW WHEN (NEW.floor <> OLD.floor)"
+        " EXECUTE FUNCTION slowly()"
+    )
+    with started(pair.words()) as first:
+        begins = wait_for(lambda: pair.first.sql(ASLEEP) == "1")
+        with started(pair.words()):
+            serves = announces(first)
+    return "" if begins and serves else f"{begins}, {serves}"
+
+
+def store_of_another_database(pair: Pair) -> str:
+    """A silent server is taken for dead, and no other whose store has the same name."""
+    pair.first.sql("CREATE DATABASE other")
+    words = [word.replace("dbname=postgres", "dbname=other") for word in pair.words()]
+    with pair.served() as server, started(words) as silent:
+        begins = announces(silent)
+        silent.send_signal(signal.SIGSTOP)
+        with started(words) as waiting:
+            serves = announces(waiting)
+        commit(server, 1)
+        answered = is_done(server)
+        server.process.stdin.close()
+        ended = server.ended()
+    right = (begins, serves, answered, ended) == (True, True, True, (0, []))
+    return "" if right else f"{begins}, {serves}, {answered}, {ended}"
+
+
+def primary_stands_still(pair: Pair) -> str:
+    """A primary stands still while its store is read, and the standby is promoted: the start is
+    given up."""
+    with pair.served():
+        pass
+    pair.first.sql(
+        "ALTER TABLE page RENAME TO pages; CREATE VIEW page AS"
+        " SELECT store, no, part, version, body FROM pages WHERE pg_sleep(60) IS NOT NULL"
+    )
+    with started(pair.words()) as process:
+        reads = wait_for(lambda: pair.first.sql(ASLEEP) == "1")
+        pair.first.send(signal.SIGSTOP)
+        pair.second.promote()
+        ends = wait_for(lambda: process.poll() is not None, 30)
+    return "" if reads and ends and process.returncode == 3 else f"{reads}, {ends}"
+
+
 SCENES: list[Callable[[Pair], str]] = [
     answer_after_a_reconnect, cancelled_wait, old_primary_comes_back, hanging_primary_comes_back,
-    standby_is_named_no_more, password_in_the_words, reads_go_on,
+    standby_is_named_no_more, password_in_the_words, reads_go_on, long_start,
+    store_of_another_database, primary_stands_still,
 ]
 
 

@@ -13,6 +13,7 @@
 # minute once the program is built.
 set -u
 cd "$(dirname "$0")/../.."
+. scripts/checks/locked.sh
 room=$(mktemp -d)
 trap 'rm -rf "$room"' EXIT
 program=$(python3 scripts/building.py play "$room") || exit 2
@@ -22,7 +23,8 @@ schedule=$PWD/crates/cb_play/data/first.schedule
 whole=$(sed -n '2,/^status /p' crates/cb_play/stdout | sed '$d')
 bad=0
 
-# says what a run came to: NAME STATUS-WANTED LINE-WANTED, with the status in $status and the lines in out and err
+# says what a run came to: NAME STATUS-WANTED LINE-WANTED, with the status in $status and the lines
+# in out and err
 wanted() {
   local name=$1 want=$2 line=$3 out
   out=$(cat "$room/err")
@@ -62,8 +64,10 @@ wanted "a full disk for the standard error too" 5 ""
 wanted "a refusal on a full disk" 5 ""
 
 # the reader is gone before the program writes
-{ sleep 0.2; "$program" play "$config" "$schedule" 2>"$room/err"; echo $? >"$room/status"; } | true
-status=$(cat "$room/status")
+mkfifo "$room/pipe"
+exec 8<>"$room/pipe" 9>"$room/pipe" 8<&-
+"$program" play "$config" "$schedule" 2>"$room/err" >&9; status=$?
+exec 9>&-
 wanted "a closed pipe" 5 ""
 
 "$program" play "$config" "$schedule" >&- 2>"$room/err"; status=$?
@@ -74,7 +78,8 @@ for path in "$room/none" "$room" /proc/self/mem; do
   runs "an unreadable schedule, $path" 2 "cannot read $path" play "$config" "$path"
 done
 
-runs "a path of control characters" 2 "cannot read $room/a\\u{0a}\\u{1b}[31mb" play "$config" "$room/"$'a\n\e[31mb'
+runs "a path of control characters" 2 "cannot read $room/a\\u{0a}\\u{1b}[31mb" \
+  play "$config" "$room/"$'a\n\e[31mb'
 
 runs "a word that isn't text" 2 "words: text" play "$config" $'\xff'
 
@@ -82,22 +87,27 @@ printf '"a\\u001bb" = 1\n' >"$room/key.toml"
 runs "a key of control characters" 2 'config: unknown a\u{1b}b' play "$room/key.toml" "$schedule"
 
 "$program" --version >"$room/out" 2>"$room/err"; status=$?
-[[ $(cat "$room/out") =~ ^cb_play\ [0-9.]+$ ]] || { echo "the version is $(cat "$room/out")"; bad=1; }
+if ! [[ $(cat "$room/out") =~ ^cb_play\ [0-9.]+$ ]]; then
+  echo "the version is $(cat "$room/out")"
+  bad=1
+fi
 wanted "the version" 0 ""
 
-# Limits of memory: a long play under less and less. Each run ends with the whole play, or with status 4, `memory`, and whole
-# lines of the play's beginning; some end amid the events.
+# Limits of memory: a long play under less and less. Each run ends with the whole play, or with
+# status 4, `memory`, and whole lines of the play's beginning; some end amid the events.
 yes "take 9" | head -n 300000 >"$room/long.schedule"
 "$program" play "$config" "$room/long.schedule" >"$room/whole" 2>"$room/err"; status=$?
 wanted "a long play" 0 ""
 ended_whole=0 ended_before=0 ended_amid=0
 for limit in $(seq 4000 4000 120000); do
-  (ulimit -v "$limit"; "$program" play "$config" "$room/long.schedule" >"$room/out" 2>"$room/err"); status=$?
+  (ulimit -v "$limit"; "$program" play "$config" "$room/long.schedule") >"$room/out" 2>"$room/err"
+  status=$?
   if [ "$status" = 0 ] && cmp -s "$room/out" "$room/whole" && [ ! -s "$room/err" ]; then
     ended_whole=$((ended_whole + 1))
   elif [ "$status" = 4 ] && [ "$(cat "$room/err")" = memory ] && [ ! -s "$room/out" ]; then
     ended_before=$((ended_before + 1))
-  elif [ "$status" = 4 ] && [ "$(cat "$room/err")" = memory ] && head -n "$(wc -l <"$room/out")" "$room/whole" | cmp -s - "$room/out"; then
+  elif [ "$status" = 4 ] && [ "$(cat "$room/err")" = memory ] \
+    && head -n "$(wc -l <"$room/out")" "$room/whole" | cmp -s - "$room/out"; then
     ended_amid=$((ended_amid + 1))
   elif [ "$status" -ge 126 ]; then
     : # too little to start a process at all
@@ -106,8 +116,12 @@ for limit in $(seq 4000 4000 120000); do
     bad=1
   fi
 done
-echo "limits of memory: $ended_before ended before an event, $ended_amid amid the events, $ended_whole whole"
-[ $ended_amid -gt 0 ] && [ $ended_whole -gt 0 ] || { echo "the limits decide nothing: FAILED"; bad=1; }
+echo "limits of memory: $ended_before ended before an event, $ended_amid amid the events," \
+  "$ended_whole whole"
+if [ $ended_amid = 0 ] || [ $ended_whole = 0 ]; then
+  echo "the limits decide nothing: FAILED"
+  bad=1
+fi
 
 # Runs of workers: 100 jobs of four clients over a new store.
 counters=$PWD/crates/cb_play/data/jobs.toml
@@ -122,15 +136,21 @@ else
   bad=1
 fi
 
+# A run that was refused: nothing on the output.
+prints_nothing() {
+  if [ -s "$room/out" ]; then
+    echo "$1: FAILED, it prints on the output"
+    bad=1
+  fi
+}
+
 if command -v sqlite3 >/dev/null; then
   "$program" run "$counters" "$room/locked.db" >"$room/out" 2>"$room/err"
-  (echo "PRAGMA locking_mode=EXCLUSIVE; BEGIN EXCLUSIVE;"; sleep 4) | sqlite3 "$room/locked.db" >/dev/null &
-  holder=$!
-  sleep 1
+  lock_file "$room" "$room/locked.db"
   "$program" run "$counters" "$room/locked.db" >"$room/out" 2>"$room/err"; status=$?
-  wait "$holder"
+  let_go
   wanted "a run over a locked file" 3 "store: Store"
-  [ ! -s "$room/out" ] || { echo "a run over a locked file: FAILED, it prints on the output"; bad=1; }
+  prints_nothing "a run over a locked file"
 else
   echo "a run over a locked file: skipped, there is no sqlite3"
 fi
@@ -140,7 +160,7 @@ if mount -t tmpfs -o size=64k tmpfs "$room/small" 2>/dev/null; then
   "$program" run "$counters" "$room/small/full.db" >"$room/out" 2>"$room/err"; status=$?
   umount "$room/small"
   wanted "a run on a full disk" 3 "store: Store"
-  [ ! -s "$room/out" ] || { echo "a run on a full disk: FAILED, it prints on the output"; bad=1; }
+  prints_nothing "a run on a full disk"
 else
   echo "a run on a full disk: skipped, nothing can be mounted here"
 fi
@@ -162,7 +182,8 @@ limited() {
 run_whole=0 run_refused=0
 for limit in $(seq 4000 8000 200000); do
   rm -f "$room"/limit.db*
-  (ulimit -v "$limit"; "$program" run "$counters" "$room/limit.db" >"$room/out" 2>"$room/err"); status=$?
+  (ulimit -v "$limit"; "$program" run "$counters" "$room/limit.db") >"$room/out" 2>"$room/err"
+  status=$?
   limited "$limit KB"
 done
 echo "runs under limits of memory: $run_refused refused, $run_whole whole"
@@ -174,7 +195,9 @@ else
   threads=$(ps -L -u "$(id -u)" -o lwp= | wc -l)
   for more in 1 2 3 4 5 8; do
     rm -f "$room"/limit.db*
-    (ulimit -u $((threads + more)); exec "$program" run "$counters" "$room/limit.db" >"$room/out" 2>"$room/err"); status=$?
+    (ulimit -u $((threads + more)); exec "$program" run "$counters" "$room/limit.db") \
+      >"$room/out" 2>"$room/err"
+    status=$?
     limited "$((threads + more)) threads"
   done
   echo "runs under limits of threads: $run_refused refused, $run_whole whole"

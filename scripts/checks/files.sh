@@ -11,6 +11,7 @@
 # minutes over libraries that are checked already. The checks themselves take seconds.
 set -u
 top=$(cd "$(dirname "$0")/../.." && pwd)
+. "$top/scripts/checks/locked.sh"
 room=$(mktemp -d)
 trap 'rm -rf "$room"' EXIT
 bad=0
@@ -28,32 +29,37 @@ wanted() {
   fi
 }
 
+# the tables of the older generation, without rows
+older="CREATE TABLE page(no INTEGER PRIMARY KEY, version INTEGER NOT NULL, body BLOB NOT NULL)
+  STRICT; CREATE TABLE mark(id INTEGER PRIMARY KEY, commits INTEGER NOT NULL,
+  page_size INTEGER NOT NULL) STRICT;"
+
 # the tables of a shelf with a store of two pages of 16 bytes, by sqlite3
 by_sqlite() {
   rm -f "$1"*
-  sqlite3 "$1" "CREATE TABLE mark2(id INTEGER PRIMARY KEY, commits INTEGER NOT NULL, page_size INTEGER NOT NULL,
-    pages INTEGER NOT NULL) STRICT;
+  sqlite3 "$1" "CREATE TABLE mark2(id INTEGER PRIMARY KEY, commits INTEGER NOT NULL,
+    page_size INTEGER NOT NULL, pages INTEGER NOT NULL) STRICT;
     CREATE TABLE page2(no INTEGER PRIMARY KEY, version INTEGER NOT NULL) STRICT;
-    CREATE TABLE part(no INTEGER NOT NULL, place INTEGER NOT NULL, body BLOB NOT NULL, PRIMARY KEY(no, place)) STRICT;
+    CREATE TABLE part(no INTEGER NOT NULL, place INTEGER NOT NULL, body BLOB NOT NULL,
+    PRIMARY KEY(no, place)) STRICT;
     INSERT INTO mark2 VALUES (1, 3, 16, 2);
     INSERT INTO page2 VALUES (0, 3), (1, 0);
     INSERT INTO part VALUES (0, 0, x'07070707070707070707070707070707'), (1, 0, zeroblob(16));
     $2"
 }
 
-# the tables of the older generation
+# the older tables with that store
 old_by_sqlite() {
   rm -f "$1"*
-  sqlite3 "$1" "CREATE TABLE page(no INTEGER PRIMARY KEY, version INTEGER NOT NULL, body BLOB NOT NULL) STRICT;
-    CREATE TABLE mark(id INTEGER PRIMARY KEY, commits INTEGER NOT NULL, page_size INTEGER NOT NULL) STRICT;
+  sqlite3 "$1" "$older
     INSERT INTO page VALUES (0, 3, x'07070707070707070707070707070707'), (1, 0, zeroblob(16));
     INSERT INTO mark VALUES (1, 3, 16)"
 }
 
 # the rows of a shelf's tables, as sqlite3 reads them
 rows() {
-  sqlite3 "$1" "SELECT * FROM mark2; SELECT * FROM page2 ORDER BY no;
-    SELECT no, place, length(body), hex(substr(body, 1, 2)) FROM part ORDER BY no, place" | tr '\n' ' '
+  sqlite3 "$1" "SELECT * FROM mark2; SELECT * FROM page2 ORDER BY no; SELECT no, place,
+    length(body), hex(substr(body, 1, 2)) FROM part ORDER BY no, place" | tr '\n' ' '
 }
 
 # NAME FAULT-WANTED: the program refuses the file, and leaves it byte for byte
@@ -72,8 +78,10 @@ program=$(python3 "$top/scripts/building.py" shelf_files "$room") || exit 2
 say fill "$room/w.db" 2 8208 1 9 >"$room/said"
 wanted "a shelf writes" "written 1" "$(cat "$room/said")"
 wanted "sqlite3 finds it whole" ok "$(sqlite3 "$room/w.db" 'PRAGMA integrity_check')"
-wanted "sqlite3 reads it" "1|1|8208|2 0|1 1|0 0|0|4096|0909 0|1|4096|0909 0|2|16|0909 1|0|4096|0000 1|1|4096|0000 1|2|16|0000 " \
-  "$(rows "$room/w.db")"
+tables="1|1|8208|2 0|1 1|0"
+first="0|0|4096|0909 0|1|4096|0909 0|2|16|0909"
+second="1|0|4096|0000 1|1|4096|0000 1|2|16|0000"
+wanted "sqlite3 reads it" "$tables $first $second " "$(rows "$room/w.db")"
 
 # written by sqlite3, read by the shelf, written by it, read by sqlite3
 by_sqlite "$room/a.db" ""
@@ -104,8 +112,9 @@ another page size|UPDATE mark2 SET page_size = 32
 another count of pages|UPDATE mark2 SET pages = 3
 no mark|DELETE FROM mark2
 one table missing|DROP TABLE part
-both generations with rows|CREATE TABLE page(no INTEGER PRIMARY KEY, version INTEGER NOT NULL, body BLOB NOT NULL) STRICT; CREATE TABLE mark(id INTEGER PRIMARY KEY, commits INTEGER NOT NULL, page_size INTEGER NOT NULL) STRICT; INSERT INTO mark VALUES (1, 3, 16)
 ROWS
+by_sqlite "$room/a.db" "$older INSERT INTO mark VALUES (1, 3, 16)"
+refused "both generations with rows" "open: 1 Shape"
 old_by_sqlite "$room/a.db"
 sqlite3 "$room/a.db" "DELETE FROM page WHERE no = 1"
 refused "a page of the older tables missing" "open: 1 Shape"
@@ -117,16 +126,16 @@ by_sqlite "$room/a.db" ""
 dd if=/dev/zero of="$room/a.db" bs=1 seek=100 count=200 conv=notrunc 2>/dev/null
 refused "a damaged database" "connect: 2 Store"
 by_sqlite "$room/a.db" ""
-(echo "PRAGMA locking_mode=EXCLUSIVE; BEGIN EXCLUSIVE;"; sleep 4) | sqlite3 "$room/a.db" >/dev/null &
-sleep 1
+lock_file "$room" "$room/a.db"
 refused "a locked file" "connect: 2 Store"
-wait
+let_go
 by_sqlite "$room/a.db" ""
 rm -f "$room"/a.db-*
 chmod 755 "$room"; chmod 444 "$room/a.db"
 cp "$program" "$room/program"; chmod 755 "$room/program"
 before=$(sha256sum <"$room/a.db")
-said=$(cd / && setpriv --reuid=65534 --clear-groups "$room/program" open "$room/a.db" 2 16 2>&1 | grep -v '^connect [0-9]')
+said=$(cd / && setpriv --reuid=65534 --clear-groups "$room/program" open "$room/a.db" 2 16 2>&1 \
+  | grep -v '^connect [0-9]')
 wanted "a read-only file" "connect: 2 Store" "$said"
 wanted "a read-only file, the file" "$before" "$(sha256sum <"$room/a.db")"
 chmod 644 "$room/a.db"

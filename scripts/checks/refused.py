@@ -7,8 +7,7 @@
     scripts/check refused shelf            a shelf over a new file, and over one with older tables
     scripts/check refused station          all calls of a station
     scripts/check refused run              a run of two clients, and each thread that it makes
-    scripts/check refused growths [MOST]   tests that accept want of memory, with the first growths
-                                           refused (12)
+    scripts/check refused growths          tests that accept want of memory
 
 Each begins the program anew for each growth that it makes, and refuses that one.
 
@@ -35,14 +34,13 @@ Each begins the program anew for each growth that it makes, and refuses that one
   many were refused outside the run. Where a thread can't be made it ends by want of memory. A
   worker, `work` and the flusher take memory there as their threads come to it, so that the growth
   of a number isn't the same in each run. JOBS is how many runs there are at once (2).
-- growths: only the named tests of cb_layer_tests count. The others want memory, and fail in such a
-  run.
+- growths: six tests of cb_layer_tests, each of which passes whichever growth is refused. The others
+  want memory, and fail in such a run. JOBS is how many runs there are at once (2).
 
-They need `cb_play` (calls, plays), a C compiler (all but growths), the tests that the gate or `rt
-test` built (run), and their own programs, which are built first; PROGRAM names a built one for
-each but `growths`. Of `shelf` the build takes 12 processor minutes over libraries that are checked
-already. `growths` builds the tests anew for each number, which takes minutes. The status is 1 where
-a call ended in another way.
+They need a C compiler, `cb_play` (calls, plays), the tests that the gate or `rt test` built (run,
+growths), and their own programs, which are built first; PROGRAM names a built one for each. Of
+`shelf` the build takes 12 processor minutes over libraries that are checked already. The status is
+1 where a call ended in another way.
 """
 import importlib
 

@@ -1,8 +1,6 @@
-"""Runs tests that accept want of memory, the Nth growth refused: `check refused growths`."""
-import re
-
+"""Runs tests that accept want of memory, each growth refused in turn: `check refused growths`."""
 import building
-from checks.trying import said
+from checks.refusing import Refusing, several
 
 TESTS = [
     "frame::refused::pages_with_growths_refused",
@@ -14,15 +12,19 @@ TESTS = [
 ]
 
 
-def main(words):
-    most, bad = int((words or ["12"])[0]), 0
-    tests = building.TOP / "crates/cb_layer_tests"
-    for growth in range(1, most + 1):
-        command = [*building.RT, "try", "--test", "--fail-alloc", str(growth)]
-        _, text = said(*command, cwd=tests)
-        passed = set(re.findall(r"^test (\S+) \.\.\. ok", text, re.M))
-        for test in TESTS:
-            came = "ok" if test in passed else "FAILED"
-            print(f"{test}: growth {growth} refused: {came}", flush=True)
-            bad |= test not in passed
-    return int(bad)
+def refused_in_turn(programs, test):
+    """Refuses each growth of a test; whether it failed with one."""
+    growths = programs.run(test).growths
+    with several() as pool:
+        ended = list(pool.map(lambda it: programs.run(test, refused=it), range(growths + 1)))
+    failed = [it for it, came in enumerate(ended) if came.status]
+    print(f"{test}: {growths} growths refused, {len(failed)} failed {failed[:5]}", flush=True)
+    return bool(failed) or not growths
+
+
+def main(_words):
+    tests = building.TOP / "crates/cb_layer_tests/out/cb_layer_tests_tests"
+    program = building.named("PROGRAM") or building.built(tests, "")
+    with building.a_room() as room:
+        programs = Refusing(program, room)
+        return int(any([refused_in_turn(programs, it) for it in TESTS]))

@@ -17,16 +17,21 @@ from typing import Callable, Iterator
 
 import building
 import postgres
+from checks.engine_faults import SIZE, commit, greet, is_done
 from checks.frames import (
     AGAIN, ASK_READ, ASK_WRITE, COMMIT, DOWNGRADED, DROP, GIVE_BACK, HEADER, HELLO, IN_USE, frame,
     of_commit, of_page, of_read, of_write,
 )
-from checks.serve_input import CLIENTS, LIFE, PAGES, Scene
+from checks.serve_input import CLIENTS, CONFIG, LIFE, PAGES, Scene
+from checks.serve_lives import Server
 from checks.trying import ran, rows_of
+from serving import wait_for
 
 PLAY = "cb_play"
 # Frames of a drawn stream, and how many such streams are tried.
 DRAWN_FRAMES, DRAWN_STREAMS = 60, 60
+# The pages of a large store, of two rows each, and how many batches are written to one of them.
+MANY, BATCHES = 256, 20
 
 
 @dataclass
@@ -300,6 +305,37 @@ def stored_run_differs(room: Path, serve: Path, cluster: postgres.Cluster | None
     return ""
 
 
+# ---- rows ----
+
+
+def rows_read(cluster: postgres.Cluster) -> int:
+    """How many rows of pages were fetched by an index, of the sessions that have ended."""
+    return int(cluster.sql("SELECT idx_tup_fetch FROM pg_stat_user_tables WHERE relname = 'page'"))
+
+
+def too_many_rows(room: Path, serve: Path, cluster: postgres.Cluster) -> str:
+    """What is wrong with the rows that batches of one page read: no more than they write, once the
+    store's are loaded, though the planner knows of the table that it is small, and no more."""
+    config = room / "config_of_many"
+    config.write_text(CONFIG.format(CLIENTS, MANY, SIZE, ""))
+    server = Server([serve, "--announce", config, f"{cluster.address} application_name=many"])
+    try:
+        greet(server)
+        cluster.sql("ALTER TABLE page SET (autovacuum_enabled = off)")
+        cluster.sql("VACUUM page")
+        before = rows_read(cluster)
+        for number in range(1, BATCHES + 1):
+            commit(server, number)
+            if not is_done(server):
+                return "no answer"
+    finally:
+        server.end()
+    session = "SELECT count(*) FROM pg_stat_activity WHERE application_name = 'many'"
+    wait_for(lambda: cluster.sql(session) == "0")
+    found = rows_read(cluster) - before
+    return "" if found <= 2 * (MANY + BATCHES) else f"{found} rows in {BATCHES} batches"
+
+
 def tried(tries, room: Path, play: Path, serve: Path) -> None:
     """Compares the servers."""
     room.mkdir(mode=0o755)
@@ -315,6 +351,8 @@ def tried(tries, room: Path, play: Path, serve: Path) -> None:
             ways["PostgreSQL"] = [InCluster(cluster, serve)]
             why = stored_run_differs(room / "stored_in_cluster", serve, cluster)
             tries.told("the stored runs: PostgreSQL", not why, why)
+            why = too_many_rows(room, serve, cluster)
+            tries.told("rows that batches read: PostgreSQL", not why, why)
         compared(tries, room, play_server, ways)
     why = stored_run_differs(room / "stored", serve, None)
     tries.told("the stored runs: SQLite", not why, why)

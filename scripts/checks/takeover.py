@@ -11,11 +11,12 @@
   and as often the server stands still for some seconds. After each the work goes on.
 - Then the logs of all clients are judged (scripts/serial.py): commits are strictly serial, and what
   was answered is there.
+- At last the gateways are stopped in order, and no sanitizer may have found anything.
 
-Server and gateway are built with ASan and UBSan. It needs the library (that of LIBRARY, else
-installed by scripts/library, with what stands in crates/rughvadi/out after --built), a C compiler,
-libuv, SQLite and libpq with their headers, and PostgreSQL 15. With 50 kills it takes some fifteen
-minutes. The status is 1 where something failed.
+Server and gateway are built with ASan and UBSan. KEEP names a folder that gets the clients' logs.
+It needs the library (that of LIBRARY, else installed by scripts/library, with what stands in
+crates/rughvadi/out after --built), a C compiler, libuv, SQLite and libpq with their headers, and
+PostgreSQL 15. With 50 kills it takes some fifteen minutes. The status is 1 where something failed.
 """
 from __future__ import annotations
 
@@ -99,6 +100,7 @@ def opened(room: Path, it: Built) -> Site:
     command = (it.checked_serve, "--announce", "--standby", "required")
     database = f"'{postgres.conninfo(*site.clusters)}'"
     ahead = serving.set_clock(room)
+    ahead["ASAN_OPTIONS"] += ":" + os.environ["ASAN_OPTIONS"]
     serving.put_clock(room, 300)
     for place in range(2):
         own = room / f"gateway_{place}"
@@ -115,12 +117,34 @@ def opened(room: Path, it: Built) -> Site:
     return site
 
 
-def closed(site: Site) -> None:
+def closed(site: Site) -> list[int]:
+    """Ends all of it, the gateways in order, and first the one whose server waits; how these
+    ended."""
     site.workers.end()
-    for gateway in site.gateways:
-        gateway.stop(signal.SIGKILL)
+    serves = site.active() or 0
+    statuses = [site.gateways[place].stop() for place in (1 - serves, serves)]
     for cluster in site.clusters:
         cluster.stop()
+    return statuses
+
+
+def keep_logs(site: Site) -> None:
+    if folder := os.environ.get("KEEP"):
+        for path in site.workers.logs():
+            shutil.copy(path, folder)
+
+
+# ---- sanitizers ----
+
+
+def note_findings(room: Path) -> None:
+    """Has the sanitizers of all programs write what they find to files of this folder."""
+    room.mkdir(mode=0o777)
+    os.environ["ASAN_OPTIONS"] = os.environ["UBSAN_OPTIONS"] = f"log_path={room}/found"
+
+
+def findings(room: Path) -> str:
+    return "\n".join(path.read_text()[:2000] for path in sorted(room.iterdir()))
 
 
 # ---- what is lost ----
@@ -206,12 +230,17 @@ def main(words: list[str]) -> int:
     tries = Tries()
     with building.a_room() as room:
         it = Built(room, built)
+        note_findings(room / "sanitizers")
         engine_faults.tried(tries, room / "faults", it.checked_serve)
         own = room / "takeover"
         own.mkdir()
         site = opened(own, it)
         try:
             tried(tries, site, kills)
+            keep_logs(site)
         finally:
-            closed(site)
+            statuses = closed(site)
+        tries.told("the gateways are stopped", statuses == [0, 0], f"{statuses}")
+        found = findings(room / "sanitizers")
+        tries.told("sanitizers found nothing", not found, found)
     return tries.status("takeover")

@@ -5,8 +5,9 @@
 
 It runs `rt ci --anew` in a fresh clone of this repository, and notes the processor seconds of each
 call of the prover (scripts/noted.py), in FOLDER.calls. With --kept it is `rt ci`, which takes over
-what this machine kept. Crates that were taken over, or that a run which was cut off didn't come to,
-are named, since no sum has them.
+what this machine kept. A kit without that flag takes over nothing, so there both are `rt ci`.
+Crates that were taken over, or that a run which was cut off didn't come to, are named, since no sum
+has them.
 
 Of each crate: its proof, its tests with theirs, the check that its first edit begins with, the
 other edits (their sum, their number and the dearest), the check without an edit at their end, and a
@@ -14,10 +15,12 @@ program's check with its two builds; then their sum as a multiple of the proof o
 same run, so that one machine's slow hour is no change, and the processor minutes that a thousand
 lines of its source take. The kit's rule is 4 to 6 of them; a crate that takes more than three times
 as much is marked. The last lines are the sums in processor minutes and as such multiples. Where
-cb_protocol was taken over, it is proved once over what the run built.
+cb_protocol was taken over, it is proved once over what the run built; where what stands below it
+isn't built either, no multiple is said.
 
 It takes as long as the gate does (docs/DECISIONS.md); --of takes a second. KIT names the toolchain
-if it isn't that of the command `rt`. The status is the gate's, and 0 with --of.
+if it isn't that of the command `rt`. The status is the gate's, and 0 with --of; it is 2 where the
+gate proved nothing, or a log has no call.
 """
 import json
 import os
@@ -34,6 +37,8 @@ from bodies.prover import Prover
 from building import TOP
 
 PEER, PARTS = "cb_protocol", ("proof", "tests", "first", "edits", "last", "program")
+# What a kit that takes over earlier proofs begins from nothing by.
+ANEW = "--anew"
 # Processor minutes of a thousand lines that are three times the kit's rule.
 DEAR = 18
 
@@ -63,9 +68,13 @@ def peer_of(calls: list[list], below: Path | None) -> float:
             return seconds
     if not below:
         return 0
+    prover = Prover(building.toolchain(), below)
+    try:
+        words = prover.words(PEER)
+    except building.NotBuilt:
+        return 0
     with building.a_room() as room:
-        prover = Prover(building.toolchain(), below)
-        return prover.check(trials.copied(PEER, room), prover.words(PEER)).seconds
+        return prover.check(trials.copied(PEER, room), words).seconds
 
 
 def lines_of(name: str) -> int:
@@ -104,19 +113,29 @@ def table(calls: list[list], below: Path | None) -> None:
     print(f"not proved in this run, and in no sum: {names}" if lost else "all were proved")
 
 
+def gate(rt: Path, is_anew: bool) -> list[str | Path]:
+    """The words of the gate: with the flag against what was kept, if the kit has it."""
+    return [rt, "ci", *([ANEW] if is_anew and ANEW in rt.read_text() else [])]
+
+
 def run_of(clone: Path, log: Path, is_anew: bool) -> int:
     """Runs the gate in a new clone, with its calls noted; its status."""
     kit = os.environ.get("KIT")
-    rt = f"{kit}/bin/rt" if kit else shutil.which("rt")
+    rt = Path(f"{kit}/bin/rt" if kit else shutil.which("rt") or "rt").resolve()
+    if not rt.exists():
+        raise building.NotBuilt(f"there is no program {rt}")
     subprocess.run(["git", "clone", "-q", TOP, clone], check=True)
-    words = [sys.executable, TOP / "scripts/noted.py", log, rt, "ci"]
-    done = subprocess.run([*words, *(["--anew"] if is_anew else [])], cwd=clone, check=False)
-    return done.returncode
+    words = [sys.executable, TOP / "scripts/noted.py", log, *gate(rt, is_anew)]
+    return subprocess.run(words, cwd=clone, check=False).returncode
 
 
 def read(log: Path) -> list[list]:
-    """The calls that a log has."""
-    return [json.loads(line) for line in log.read_text().splitlines()]
+    """The calls that a log has, of which one at least is a crate's."""
+    lines = log.read_text().splitlines() if log.exists() else []
+    calls = [json.loads(line) for line in lines]
+    if not any(name for name, *_ in calls):
+        raise building.NotBuilt(f"no crate was proved: {log} has no call of the prover")
+    return calls
 
 
 def main(words: list[str]) -> int:
@@ -130,5 +149,5 @@ def main(words: list[str]) -> int:
     log = clone.with_name(f"{clone.name}.calls")
     status = run_of(clone, log.absolute(), "--kept" not in words)
     table(read(log), clone)
-    print(f"clone {clone}")
+    print(f"clone {clone}, the gate's status {status}")
     return status

@@ -1,11 +1,12 @@
 -- A page changes, and no ask leaves.
-use Rattle.std.proofs.Common.{◌≡◌, ◌≢◌, ℕ, ◌<◌, ◌≤◌, Bool, true, false, ◌==◌, if◌then◌else◌, List, [], ◌∷◌, Option, Some, None, refl, sym, ap, ◌∙◌, subst, arith, inl, inr}
+use Rattle.std.proofs.Common.{◌≡◌, ◌≢◌, ℕ, ◌<◌, ◌≤◌, Bool, true, false, ◌==◌, if◌then◌else◌, List, [], ◌∷◌, ◌++◌, Option, Some, None, refl, sym, ap, ◌∙◌, subst, arith, inl, inr}
 use Rattle.std.proofs.lemmas.Bool.{cases_eq}
 use Rattle.std.proofs.lemmas.Bool.Decides.{nat_tests}
 use Rattle.cb_asks.specs.Asks.{AsksState, Has, queue_at}
 use Rattle.cb_asks.specs.Marks.{HasMarks, MarksState, is_in_use}
 use Rattle.cb_callbacks.specs.Callbacks.{AreCallbacks}
 use Rattle.cb_callbacks.specs.Following.{FollowsPage}
+use Rattle.cb_server_state.specs.Granting.{grant_copy}
 use Rattle.cb_server_state.specs.States.{Does, PartsAgree, server_of}
 use Rattle.cb_server_state.specs.Waits.{HasBegun, IsGreeted, Waits}
 use Rattle.cb_server_state.specs.declared.server_state.ServerState.{ServerState}
@@ -14,7 +15,7 @@ use Rattle.cb_callbacks.proofs.Left.{Elsewhere, edges_same, field_same}
 use Rattle.cb_callbacks.proofs.Queues.{Placed, each_place, placed}
 use Rattle.cb_protocol.proofs.SettlingClears.{put_other, put_there}
 use Rattle.cb_protocol.specs.Basics.{is_none, update}
-use Rattle.cb_protocol.specs.Server.{ChangeSession, MarkInUse, Server, ServerStep, UnmarkInUse, has_ask, server_after, set_in_use}
+use Rattle.cb_protocol.specs.Server.{ChangeSession, MarkInUse, Server, ServerStep, UnmarkInUse, WaitingAsk, has_ask, server_after, set_in_use}
 use Rattle.cb_protocol.specs.Session.{EndPermission, RemoveRow, Session, has_live_txn, without_holder, without_holder_at}
 use Rattle.cb_protocol.specs.Settling.{give_permission}
 use Rattle.cb_protocol.specs.WaitsFor.{waits_for}
@@ -211,3 +212,51 @@ kept_reserved before view asks kept has = record {
   where
     same : server_of (record before { asks = asks }) ≡ server_of before
     same = queued before asks (queue_at before.asks) has.queues
+
+-- a copy granted, with no ask that leaves
+pub grants_at : (client page : ℕ) (s : Server) → Waits s → client < s.clients → IsGreeted s client → AtPage page s (server_after s (grant_copy s page client))
+grants_at client page s w known greeted = record {
+  same = record {
+    queues = λ at ne. refl;
+    writers = λ at ne. refl;
+    tags = λ at ne. refl;
+    marks = λ other at ne. refl;
+    txns = λ other. field_same (λ (x : Session). x.txn) s.session client granted refl other;
+    ends = λ other. field_same (λ (x : Session). x.ended) s.session client granted refl other;
+    clients = refl;
+    pages = refl;
+  };
+  waits = record {
+    one_ask = w.one_ask;
+    in_range = w.in_range;
+    live = λ other at is. field_same has_live_txn s.session client granted refl other ∙ w.live other at is;
+    greeted = λ other at is. greets other (w.greeted other at is);
+    rows = λ other at some. elim (cases_eq other client) [
+      | inl same ↦ (
+        subst (λ (n : ℕ). n < s.clients) (sym same) known,
+        greets other (subst (λ (n : ℕ). IsGreeted s n) (sym same) greeted),
+      )
+      | inr ne ↦ let was = w.rows other at (sym (ap (λ (x : Session). is_none (x.row at)) (put_other s.session client other granted ne)) ∙ some) in (was.0, greets other was.1)
+    ];
+    doomed = λ other is. greets other (w.doomed other is);
+    tagged = w.tagged;
+  };
+  kept = λ other e. e;
+}
+  where
+    granted : Session
+    granted = record (s.session client) { row = update (s.session client).row page (Some s.next_grant) }
+
+    greets : (other : ℕ) → IsGreeted s other → 1 ≤ (update s.session client granted other).current
+    greets other g = subst (λ (n : ℕ). 1 ≤ n) (sym (field_same (λ (x : Session). x.current) s.session client granted refl other)) g
+
+-- where nobody waits for the page, the view has nothing to follow
+pub follows_nobody : (s : Server) (page : ℕ) (view : Edges) → s.queue page ≡ [] → FollowsPage view s page view
+follows_nobody s page view nobody = record {
+  asks = λ front back ask is last other. absurd (nowhere front back ask (sym nobody ∙ is));
+  rest = λ waiting other none. refl;
+}
+  where
+    nowhere : (front back : List WaitingAsk) (ask : WaitingAsk) → [] ≡ front ++ ask ∷ back → ⊥
+    nowhere [] back ask e = absurd cc
+    nowhere (first ∷ front) back ask e = absurd cc

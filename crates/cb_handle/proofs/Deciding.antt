@@ -11,8 +11,8 @@ use Rattle.cb_client.specs.declared.client_fault.ClientFault.TheVariants as clie
 use Rattle.cb_client_core.specs.ClientState.{ClientState, client_of}
 use Rattle.cb_frame.specs.declared.frame.Frame.{Frame}
 use Rattle.cb_handle.specs.Causes.{Decides, after_fetch, by_table, committing_may, fault_of, memory}
-use Rattle.cb_handle.specs.declared.refusal.Refusal.{Refusal}
-use Rattle.cb_handle.specs.declared.refusal.Refusal.TheVariants as refusal
+use Rattle.cb_handle.specs.declared.refusal.HandleRefusal.{HandleRefusal}
+use Rattle.cb_handle.specs.declared.refusal.HandleRefusal.TheVariants as refusal
 use Rattle.cb_page.specs.Flags.{has}
 use Rattle.cb_protocol.proofs.Cases.{call_accepted, call_refused, fault_of_peek}
 use Rattle.cb_protocol.specs.Answers as table
@@ -41,7 +41,7 @@ named_back client.Memory reason e = absurd cc
 -- a fault of the table is what is in the way
 pub refused_so : (now : ClientState) (call : Call) (fault : ClientFault) → IsRefused now call fault → by_table now call ≡ Some (refusal.Client fault)
 refused_so now call fault is =
-    ap (λ (x : Option table.ClientFault). option_map fault_of x) (is.refuses []) ∙ ap (λ (x : Refusal). Some x) (named_back fault is.reason is.named)
+    ap (λ (x : Option table.ClientFault). option_map fault_of x) (is.refuses []) ∙ ap (λ (x : HandleRefusal). Some x) (named_back fault is.reason is.named)
 
 -- a word that refuses nothing
 abbrev pub accepts : table.AnswerWord → Bool

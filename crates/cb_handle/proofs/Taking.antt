@@ -15,8 +15,8 @@ use Rattle.cb_frame.specs.declared.frame.Frame.{Frame}
 use Rattle.cb_handle.specs.Causes.{Decides, NeedsRoom, after_fetch, client_take_may, in_bytes, server_take_may}
 use Rattle.cb_handle.specs.Faults.{client_number, frame_number}
 use Rattle.cb_handle.specs.Servers.{ServerValue}
-use Rattle.cb_handle.specs.declared.refusal.Refusal.{Refusal}
-use Rattle.cb_handle.specs.declared.refusal.Refusal.TheVariants as refusal
+use Rattle.cb_handle.specs.declared.refusal.HandleRefusal.{HandleRefusal}
+use Rattle.cb_handle.specs.declared.refusal.HandleRefusal.TheVariants as refusal
 use Rattle.cb_page.specs.Bounds.{AreInRange, Bounds}
 use Rattle.cb_page.specs.Faults.{first_fault}
 use Rattle.cb_server.specs.Taking as server_taking
@@ -69,7 +69,7 @@ client_taker_so now bytes fault range lacks =
     inr (whole_frame now.copies.limits bytes lacks.frame lacks.used range lacks.begin.read, inr (ap (λ (x : ClientFault). client_number x) lacks.memory, subst (λ (x : Frame). NeedsRoom now x) (sym front.is) (lacks.own, lacks.needed)))
 
 -- with nothing unfetched
-fetched : {X : Type 0} (said : List Frame) (cause : Option Refusal) (may : ℕ → Type 0) (result : Result X Refusal) → said ≡ [] → Decides cause may result → Decides (after_fetch said cause) may result
+fetched : {X : Type 0} (said : List Frame) (cause : Option HandleRefusal) (may : ℕ → Type 0) (result : Result X HandleRefusal) → said ≡ [] → Decides cause may result → Decides (after_fetch said cause) may result
 fetched said cause may result none decides = subst (λ (x : List Frame). Decides (after_fetch x cause) may result) (sym none) decides
 
 pub whole_fetched : (said : List Frame) (limits : Bounds) (bytes : List ℕ) (frame : Frame) (used : ℕ) → said ≡ [] → AreInRange limits → IsFrameInSome limits frame (take used bytes)

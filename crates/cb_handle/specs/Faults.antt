@@ -4,8 +4,8 @@ use Rattle.cb_client.specs.declared.client_fault.ClientFault.{ClientFault}
 use Rattle.cb_client.specs.declared.client_fault.ClientFault.TheVariants as client
 use Rattle.cb_frame.specs.declared.fault.FrameFault.{FrameFault}
 use Rattle.cb_frame.specs.declared.fault.FrameFault.TheVariants as frame
-use Rattle.cb_handle.specs.declared.refusal.Refusal.{Refusal}
-use Rattle.cb_handle.specs.declared.refusal.Refusal.TheVariants as refusal
+use Rattle.cb_handle.specs.declared.refusal.HandleRefusal.{HandleRefusal}
+use Rattle.cb_handle.specs.declared.refusal.HandleRefusal.TheVariants as refusal
 use Rattle.cb_page.specs.declared.limits.LimitFault.{LimitFault}
 use Rattle.cb_page.specs.declared.limits.LimitFault.TheVariants as limit
 use Rattle.cb_server.specs.declared.server_fault.ServerFault.{ServerFault}
@@ -52,7 +52,7 @@ limit_number limit.Kin = 517
 limit_number limit.Kout = 518
 
 -- of any refusal
-abbrev pub number_of : Refusal → ℕ
+abbrev pub number_of : HandleRefusal → ℕ
 number_of (refusal.Client fault) = client_number fault
 number_of (refusal.Server fault) = server_number fault
 number_of (refusal.Frame fault) = frame_number fault

@@ -3,7 +3,7 @@ ghost use Rattle.std.specs.Prelude.{◌≡◌, ◌≢◌, IfErr, IfOk, OnErr, le
 ghost use Rattle.cb_handle.specs.Causes.{Decides, again_cause, again_may, fetch_cause, fetch_may};
 ghost use Rattle.cb_handle.specs.Causes.{never, past_pages, take_cause, take_may};
 ghost use Rattle.cb_handle.specs.Objects.{FetchesOne, IsLeft, SaysAgain, Takes};
-ghost use Rattle.cb_handle.specs.declared.refusal.Refusal.TheVariants as refusal;
+ghost use Rattle.cb_handle.specs.declared.refusal.HandleRefusal.TheVariants as refusal;
 
 mod clients;
 mod servers;
@@ -11,7 +11,7 @@ mod servers;
 use crate::opening::Opening;
 use crate::polled_client::PolledClient;
 use crate::polled_server::PolledServer;
-use crate::refusal::Refusal;
+use crate::refusal::HandleRefusal;
 use cb_page::PageNo;
 use std::alloc::Global;
 
@@ -29,20 +29,25 @@ pub enum Object {
 }
 
 /// The page of this number; `Range` if no store has one.
-fn page_of(page: u32) -> Result<PageNo, Refusal>
+fn page_of(page: u32) -> Result<PageNo, HandleRefusal>
     ensures page { IfOk result (λ no. no ≡ page) }
     ensures why { Decides (past_pages page) never result }
 {
     if page < 4096 {
         Ok(PageNo::new(page))
     } else {
-        Err(Refusal::Range)
+        Err(HandleRefusal::Range)
     }
 }
 
 impl Object {
     /// Takes the frame at the front of the bytes, and returns how many bytes it has.
-    pub fn take(&mut self, alloc: Global, bytes: &[u8], used: &mut usize) -> Result<(), Refusal>
+    pub fn take(
+        &mut self,
+        alloc: Global,
+        bytes: &[u8],
+        used: &mut usize,
+    ) -> Result<(), HandleRefusal>
         ensures ok { IfOk result (λ _. Takes self.old bytes.now used.new self.new) }
         ensures why { Decides (take_cause self.old bytes.now) (take_may self.old bytes.now) result }
         ensures used { OnErr result (used.new ≡ used.old) }
@@ -57,7 +62,7 @@ impl Object {
                 *used = polled.take(alloc, bytes)?;
                 Ok(())
             }
-            _ => Err(Refusal::OtherKind),
+            _ => Err(HandleRefusal::OtherKind),
         }
     }
 
@@ -68,7 +73,7 @@ impl Object {
         room: &mut [u8],
         size: &mut usize,
         client: &mut u32,
-    ) -> Result<(), Refusal>
+    ) -> Result<(), HandleRefusal>
         ensures ok { IfOk result (λ _.
             FetchesOne self.old room.old room.new size.new client.new self.new) }
         ensures why { Decides (fetch_cause self.old)
@@ -89,12 +94,12 @@ impl Object {
                 *client = u32::from(no.get());
                 Ok(())
             }
-            _ => Err(Refusal::OtherKind),
+            _ => Err(HandleRefusal::OtherKind),
         }
     }
 
     /// Resends what may be lost.
-    pub fn again(&mut self, alloc: Global) -> Result<(), Refusal>
+    pub fn again(&mut self, alloc: Global) -> Result<(), HandleRefusal>
         ensures ok { IfOk result (λ _. SaysAgain self.old self.new) }
         ensures why { Decides (again_cause self.old) (again_may self.old) result }
         ensures err { OnErr result (IsLeft self.old self.new) }
@@ -102,7 +107,7 @@ impl Object {
         match self {
             Object::Server(polled) => polled.again(alloc),
             Object::Client(polled) => polled.again(alloc),
-            _ => Err(Refusal::OtherKind),
+            _ => Err(HandleRefusal::OtherKind),
         }
     }
 }

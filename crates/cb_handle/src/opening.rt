@@ -3,10 +3,10 @@ ghost use Rattle.std.specs.Prelude.{◌≡◌, ◌↔◌, IfErr, IfOk, IsOk, OnE
 ghost use Rattle.cb_commit.specs.Stores.{IsOf};
 ghost use Rattle.cb_handle.specs.Causes.{Decides, memory, never, no_opening, no_row, refused_if};
 ghost use Rattle.cb_handle.specs.Opened.{no_rows, store_of, told_floor, with_row};
-ghost use Rattle.cb_handle.specs.declared.refusal.Refusal.TheVariants as refusal;
+ghost use Rattle.cb_handle.specs.declared.refusal.HandleRefusal.TheVariants as refusal;
 ghost use Rattle.cb_page.specs.Numbers.{max_number};
 
-use crate::refusal::Refusal;
+use crate::refusal::HandleRefusal;
 use cb_commit::{Store, StoredPage};
 use cb_page::{Incarnation, Limits, MAX_NUMBER, Page, Version};
 use std::alloc::Global;
@@ -54,7 +54,7 @@ impl Model for Opening {
 }
 
 /// The floor that a host tells by a number; 0 means none. `Range` if no incarnation can have it.
-fn told(floor: u64) -> Result<Option<Incarnation>, Refusal>
+fn told(floor: u64) -> Result<Option<Incarnation>, HandleRefusal>
     ensures floor { IfOk result (λ told. told ≡ told_floor floor) }
     ensures why { Decides (refused_if (nat_lt max_number floor) refusal.Range) never result }
 {
@@ -63,7 +63,7 @@ fn told(floor: u64) -> Result<Option<Incarnation>, Refusal>
     }
     match Incarnation::checked(floor) {
         Some(incarnation) => Ok(Some(incarnation)),
-        None => Err(Refusal::Range),
+        None => Err(HandleRefusal::Range),
     }
 }
 
@@ -71,12 +71,17 @@ impl Opening {
     /// No rows yet, for a server in the life with this floor. A floor of 0 means that the server
     /// keeps no lives. `Range` if no commit can have this number (0 stands for the time before the
     /// first), or no incarnation can be the floor.
-    pub fn new(alloc: Global, limits: &Limits, number: u64, floor: u64) -> Result<Opening, Refusal>
+    pub fn new(
+        alloc: Global,
+        limits: &Limits,
+        number: u64,
+        floor: u64,
+    ) -> Result<Opening, HandleRefusal>
         ensures rows { IfOk result (λ opening. opening ≡ no_rows limits.now number floor) }
         ensures why { Decides (no_opening number floor) never result }
     {
         if number > MAX_NUMBER {
-            return Err(Refusal::Range);
+            return Err(HandleRefusal::Range);
         }
         Ok(Opening {
             limits: *limits,
@@ -91,7 +96,7 @@ impl Opening {
     ///
     /// `Room` if each page has its row already, or the bytes aren't as long as a page; `Range` if
     /// the version is above the last commit's number; `Memory` if a growth was refused.
-    pub fn row(&mut self, alloc: Global, version: u64, bytes: &[u8]) -> Result<(), Refusal>
+    pub fn row(&mut self, alloc: Global, version: u64, bytes: &[u8]) -> Result<(), HandleRefusal>
         ensures ok { IfOk result (λ _. self.new ≡ with_row self.old version bytes.now) }
         ensures why { Decides (no_row self.old version (length bytes.now)) memory result }
         ensures unchanged { OnErr result (self.new ≡ self.old) }
@@ -99,16 +104,16 @@ impl Opening {
         if bytes.len() != self.limits.page_size()
             || self.rows.len() >= self.limits.pages() as usize
         {
-            return Err(Refusal::Room);
+            return Err(HandleRefusal::Room);
         }
         if version > self.number {
-            return Err(Refusal::Range);
+            return Err(HandleRefusal::Range);
         }
         let version = Version::new(version);
         let bytes = Page::copy_of(alloc, bytes)?;
         match self.rows.push(StoredPage { version, bytes }) {
             Ok(()) => Ok(()),
-            Err(_) => Err(Refusal::Memory),
+            Err(_) => Err(HandleRefusal::Memory),
         }
     }
 

@@ -15,14 +15,14 @@ ghost use Rattle.cb_handle.specs.Causes.{past_pages, said_cause, said_may, sayin
 ghost use Rattle.cb_handle.specs.Causes.{unknown_client};
 ghost use Rattle.cb_handle.specs.Clients.{IsOutcome, IsStatus, MayWrite, outcome_numbers};
 ghost use Rattle.cb_handle.specs.Fetching.{Fetches};
-ghost use Rattle.cb_handle.specs.declared.refusal.Refusal.TheVariants as refusal;
+ghost use Rattle.cb_handle.specs.declared.refusal.HandleRefusal.TheVariants as refusal;
 ghost use Rattle.cb_outbox.specs.Messages.{messages_of};
 ghost use Rattle.cb_protocol.specs.Answers.{AnsweredBytes, AnsweredOk, Asked, Permitted};
 ghost use Rattle.cb_protocol.specs.ClientCalls.{CallAgain, CallBegin, CallDrop, CallFinish};
 ghost use Rattle.cb_protocol.specs.ClientCalls.{CallHello, CallPeek, CallRead, CallWant};
 ghost use Rattle.cb_protocol.specs.ClientCalls.{CallWrite};
 
-use crate::refusal::Refusal;
+use crate::refusal::HandleRefusal;
 use crate::said::Said;
 use cb_client::{Client, ClientStatus, Outcome, ReadAnswer, WantAnswer};
 use cb_frame::{BytesFault, Frame};
@@ -44,17 +44,17 @@ impl PolledClient {
         no: u32,
         incarnation: u64,
         limits: &Limits,
-    ) -> Result<PolledClient, Refusal>
+    ) -> Result<PolledClient, HandleRefusal>
         ensures state { IfOk result (λ polled.
             polled.client ≡ new_state no incarnation limits.now) }
         ensures said { IfOk result (λ polled. polled.said ≡ []) }
         ensures why { Decides (unknown_client limits.now no incarnation) memory result }
     {
         let Some(no) = ClientNo::in_store(limits, u64::from(no)) else {
-            return Err(Refusal::Range);
+            return Err(HandleRefusal::Range);
         };
         let Some(incarnation) = Incarnation::checked(incarnation) else {
-            return Err(Refusal::Range);
+            return Err(HandleRefusal::Range);
         };
         let chooser = TwoQ::make(alloc, limits)?;
         Ok(PolledClient {
@@ -64,7 +64,7 @@ impl PolledClient {
     }
 
     /// Takes the frame at the front of the bytes. Returns how many bytes it has.
-    pub fn take(&mut self, alloc: Global, bytes: &[u8]) -> Result<usize, Refusal>
+    pub fn take(&mut self, alloc: Global, bytes: &[u8]) -> Result<usize, HandleRefusal>
         ensures ok { IfOk result (λ used. (capacity : ℕ) × TakesBytes self.old.client
             bytes.now used (messages_of self.new.said) capacity self.new.client) }
         ensures fetched { IsOk result → self.old.said ≡ [] }
@@ -82,13 +82,13 @@ impl PolledClient {
                 self.said = Said::of(&limits, said);
                 Ok(used)
             }
-            Err(BytesFault::Frame(fault)) => Err(Refusal::Frame(fault)),
-            Err(BytesFault::Taker(fault)) => Err(Refusal::Client(fault)),
+            Err(BytesFault::Frame(fault)) => Err(HandleRefusal::Frame(fault)),
+            Err(BytesFault::Taker(fault)) => Err(HandleRefusal::Client(fault)),
         }
     }
 
     /// Resends what may be lost.
-    pub fn again(&mut self, alloc: Global) -> Result<(), Refusal>
+    pub fn again(&mut self, alloc: Global) -> Result<(), HandleRefusal>
         ensures ok { IfOk result (λ _. Calls self.old.client CallAgain AnsweredOk
             (messages_of self.new.said) as_before self.new.client) }
         ensures fetched { IsOk result → self.old.said ≡ [] }
@@ -101,12 +101,12 @@ impl PolledClient {
                 self.said = Said::of(self.client.limits(), said);
                 Ok(())
             }
-            Err(fault) => Err(Refusal::Client(fault)),
+            Err(fault) => Err(HandleRefusal::Client(fault)),
         }
     }
 
     /// Greets the server.
-    pub fn hello(&mut self) -> Result<(), Refusal>
+    pub fn hello(&mut self) -> Result<(), HandleRefusal>
         ensures ok { IfOk result (λ _. Calls self.old.client CallHello AnsweredOk
             (messages_of self.new.said) as_before self.new.client) }
         ensures fetched { IsOk result → self.old.said ≡ [] }
@@ -121,7 +121,7 @@ impl PolledClient {
 
     /// Begins a transaction, and returns its number.
     #[tactic(auto, using(crate::proofs::Deciding::refused_so, crate::proofs::Deciding::called_free))]
-    pub fn begin(&mut self) -> Result<u64, Refusal>
+    pub fn begin(&mut self) -> Result<u64, HandleRefusal>
         ensures ok { IfOk result (λ txn. Calls self.old.client CallBegin AnsweredOk []
             as_before self.new.client) }
         ensures txn { IfOk result (λ txn. self.new.client.txn ≡ Some txn) }
@@ -131,7 +131,7 @@ impl PolledClient {
     {
         match self.client.begin() {
             Ok(txn) => Ok(txn.get()),
-            Err(fault) => Err(Refusal::Client(fault)),
+            Err(fault) => Err(HandleRefusal::Client(fault)),
         }
     }
 
@@ -153,7 +153,7 @@ impl PolledClient {
     ///
     /// `Room` if the room isn't as long as a page.
     #[tactic(auto, using(crate::proofs::Reading::read_sized, crate::proofs::Reading::read_refused, crate::proofs::Deciding::refused_so, crate::proofs::Deciding::answered_free))]
-    pub fn read(&mut self, page: PageNo, room: &mut [u8]) -> Result<bool, Refusal>
+    pub fn read(&mut self, page: PageNo, room: &mut [u8]) -> Result<bool, HandleRefusal>
         ensures bytes { IfOk result (λ here. here ≡ true →
             Answers self.old.client (CallRead page) (AnsweredBytes room.new) []) }
         ensures silent { IfOk result (λ here. here ≡ true → self.new.said ≡ []) }
@@ -171,7 +171,7 @@ impl PolledClient {
     {
         self.said.check_fetched()?;
         if room.len() != self.client.limits().page_size() {
-            return Err(Refusal::Room);
+            return Err(HandleRefusal::Room);
         }
         match self.client.read(page) {
             Ok(ReadAnswer::Bytes(bytes)) => {
@@ -179,7 +179,7 @@ impl PolledClient {
                 return Ok(true);
             }
             Ok(ReadAnswer::Asked) => {}
-            Err(fault) => return Err(Refusal::Client(fault)),
+            Err(fault) => return Err(HandleRefusal::Client(fault)),
         }
         self.say_ask();
         Ok(false)
@@ -188,7 +188,7 @@ impl PolledClient {
     /// Asks to write a page. Returns true if it may be written at once, and false if the permission
     /// is asked for.
     #[tactic(auto, using(crate::proofs::Deciding::refused_so, crate::proofs::Deciding::called_free))]
-    pub fn want(&mut self, page: PageNo) -> Result<bool, Refusal>
+    pub fn want(&mut self, page: PageNo) -> Result<bool, HandleRefusal>
         ensures granted { IfOk result (λ may. may ≡ true → Calls self.old.client (CallWant page)
             Permitted [] as_before self.new.client) }
         ensures silent { IfOk result (λ may. may ≡ true → self.new.said ≡ []) }
@@ -207,13 +207,13 @@ impl PolledClient {
                 self.said.keep(&limits, Frame::from(frame));
                 Ok(false)
             }
-            Err(fault) => Err(Refusal::Client(fault)),
+            Err(fault) => Err(HandleRefusal::Client(fault)),
         }
     }
 
     /// Writes a page.
     #[tactic(auto, using(crate::proofs::Deciding::refused_so, crate::proofs::Deciding::called_free))]
-    pub fn write(&mut self, page: PageNo, bytes: &[u8]) -> Result<(), Refusal>
+    pub fn write(&mut self, page: PageNo, bytes: &[u8]) -> Result<(), HandleRefusal>
         ensures ok { IfOk result (λ _. Calls self.old.client (CallWrite page bytes.now)
             AnsweredOk [] (puts page bytes.now) self.new.client) }
         ensures why { Decides (by_table self.old.client (CallWrite page bytes.now)) never result }
@@ -222,13 +222,13 @@ impl PolledClient {
     {
         match self.client.write(page, bytes) {
             Ok(()) => Ok(()),
-            Err(fault) => Err(Refusal::Client(fault)),
+            Err(fault) => Err(HandleRefusal::Client(fault)),
         }
     }
 
     /// Commits the transaction.
     #[tactic(auto, using(crate::proofs::Deciding::called_free))]
-    pub fn finish(&mut self, alloc: Global) -> Result<(), Refusal>
+    pub fn finish(&mut self, alloc: Global) -> Result<(), HandleRefusal>
         ensures ok { IfOk result (λ _. Calls self.old.client CallFinish AnsweredOk
             (messages_of self.new.said) as_before self.new.client) }
         ensures fetched { IsOk result → self.old.said ≡ [] }
@@ -243,13 +243,13 @@ impl PolledClient {
                 self.said.keep(&limits, frame);
                 Ok(())
             }
-            Err(fault) => Err(Refusal::Client(fault)),
+            Err(fault) => Err(HandleRefusal::Client(fault)),
         }
     }
 
     /// Ends the transaction without a commit.
     #[tactic(auto, using(crate::proofs::Deciding::called_free))]
-    pub fn drop_txn(&mut self, alloc: Global) -> Result<(), Refusal>
+    pub fn drop_txn(&mut self, alloc: Global) -> Result<(), HandleRefusal>
         ensures ok { IfOk result (λ _. Calls self.old.client CallDrop AnsweredOk
             (messages_of self.new.said) over self.new.client) }
         ensures fetched { IsOk result → self.old.said ≡ [] }
@@ -264,7 +264,7 @@ impl PolledClient {
                 self.said = Said::of(&limits, frames);
                 Ok(())
             }
-            Err(fault) => Err(Refusal::Client(fault)),
+            Err(fault) => Err(HandleRefusal::Client(fault)),
         }
     }
 
@@ -293,7 +293,7 @@ impl PolledClient {
     /// The bytes of the client's copy of a page. This doesn't count as a reference to the page.
     /// `Nothing` if it has none; `Room` if the room isn't as long as a page.
     #[tactic(auto, using(crate::proofs::Deciding::peeked))]
-    pub fn peek(&self, page: PageNo, room: &mut [u8]) -> Result<(), Refusal>
+    pub fn peek(&self, page: PageNo, room: &mut [u8]) -> Result<(), HandleRefusal>
         ensures ok { IfOk result (λ _. Calls self.now.client (CallPeek page)
             (AnsweredBytes room.new) [] as_before self.now.client) }
         ensures why { Decides (shown_in (content_at self.now.client.copies page) (length room.old))
@@ -301,10 +301,10 @@ impl PolledClient {
         ensures kept { OnErr result (room.new ≡ room.old) }
     {
         match self.client.peek(page) {
-            None => Err(Refusal::Nothing),
+            None => Err(HandleRefusal::Nothing),
             Some(bytes) => {
                 if room.len() != bytes.len() {
-                    return Err(Refusal::Room);
+                    return Err(HandleRefusal::Room);
                 }
                 room.copy_from_slice(bytes);
                 Ok(())
@@ -329,7 +329,7 @@ impl PolledClient {
         alloc: Global,
         room: &mut [u8],
         size: &mut usize,
-    ) -> Result<ClientNo, Refusal>
+    ) -> Result<ClientNo, HandleRefusal>
         ensures ok { IfOk result (λ client. Fetches self.old.said room.old room.new size.new client
             self.new.said) }
         ensures why { Decides (said_cause self.old.said)

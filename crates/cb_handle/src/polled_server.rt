@@ -11,12 +11,12 @@ ghost use Rattle.cb_handle.specs.Fetching.{Fetches};
 ghost use Rattle.cb_handle.specs.Servers.{BeginsOver, Does, HasNext, IsNew, IsUnchanged, Leaves};
 ghost use Rattle.cb_handle.specs.Servers.{TakesBytes, forgot, next_incarnation, or_zero};
 ghost use Rattle.cb_handle.specs.Servers.{page_of_batch, server_of};
-ghost use Rattle.cb_handle.specs.declared.refusal.Refusal.TheVariants as refusal;
+ghost use Rattle.cb_handle.specs.declared.refusal.HandleRefusal.TheVariants as refusal;
 ghost use Rattle.cb_page.specs.Numbers.{IsNumber, max_number};
 ghost use Rattle.cb_protocol.specs.AnyMessages.{ReachesDisk, SendsAgain};
 ghost use Rattle.cb_protocol.specs.Flush.{can_flush, next_batch};
 
-use crate::refusal::Refusal;
+use crate::refusal::HandleRefusal;
 use crate::said::Said;
 use cb_commit::{Batch, Store};
 use cb_frame::{Body, BytesFault, Frame, ShortBody};
@@ -56,7 +56,7 @@ impl PolledServer {
         limits: &Limits,
         store: Store,
         floor: Option<Incarnation>,
-    ) -> Result<PolledServer, Refusal>
+    ) -> Result<PolledServer, HandleRefusal>
         requires { IsOf limits.now store }
         ensures begun { IfOk result (λ polled. BeginsOver limits.now store floor polled.server) }
         ensures said { IfOk result (λ polled. polled.said ≡ []) }
@@ -71,7 +71,7 @@ impl PolledServer {
     }
 
     /// A server over a store of zeros.
-    pub fn zeros(alloc: Global, limits: &Limits) -> Result<PolledServer, Refusal>
+    pub fn zeros(alloc: Global, limits: &Limits) -> Result<PolledServer, HandleRefusal>
         ensures new { IfOk result (λ polled. IsNew limits.now (zeros limits.now) polled.server) }
         ensures said { IfOk result (λ polled. polled.said ≡ []) }
         ensures batch { IfOk result (λ polled. polled.batch ≡ None) }
@@ -82,7 +82,7 @@ impl PolledServer {
     }
 
     /// Takes the frame at the front of the bytes. Returns how many bytes it has.
-    pub fn take(&mut self, alloc: Global, bytes: &[u8]) -> Result<usize, Refusal>
+    pub fn take(&mut self, alloc: Global, bytes: &[u8]) -> Result<usize, HandleRefusal>
         ensures ok { IfOk result (λ used. TakesBytes self.old.server bytes.now used
             (messages_of self.new.said) self.new.server) }
         ensures fetched { IsOk result → self.old.said ≡ [] }
@@ -102,13 +102,13 @@ impl PolledServer {
                 self.said = Said::of(&limits, said);
                 Ok(used)
             }
-            Err(BytesFault::Frame(fault)) => Err(Refusal::Frame(fault)),
-            Err(BytesFault::Taker(fault)) => Err(Refusal::Server(fault)),
+            Err(BytesFault::Frame(fault)) => Err(HandleRefusal::Frame(fault)),
+            Err(BytesFault::Taker(fault)) => Err(HandleRefusal::Server(fault)),
         }
     }
 
     /// Resends what may be lost.
-    pub fn again(&mut self, alloc: Global) -> Result<(), Refusal>
+    pub fn again(&mut self, alloc: Global) -> Result<(), HandleRefusal>
         ensures ok { IfOk result (λ _. Does self.old.server SendsAgain
             (messages_of self.new.said) self.new.server) }
         ensures fetched { IsOk result → self.old.said ≡ [] }
@@ -126,7 +126,7 @@ impl PolledServer {
 
     /// The client with this number, and the incarnation with which it may greet next. `Range` if
     /// there is no such client, or no incarnation is left for it.
-    pub fn next_incarnation(&self, client: u32) -> Result<(ClientNo, Incarnation), Refusal>
+    pub fn next_incarnation(&self, client: u32) -> Result<(ClientNo, Incarnation), HandleRefusal>
         ensures client { IfOk result (λ found. found.0 ≡ client) }
         ensures within { IfOk result (λ found. found.0 < self.now.server.limits.clients) }
         ensures next { IfOk result (λ found.
@@ -134,18 +134,18 @@ impl PolledServer {
         ensures why { Decides (next_cause self.now.server client) never result }
     {
         let Some(no) = ClientNo::in_store(self.server.limits(), u64::from(client)) else {
-            return Err(Refusal::Range);
+            return Err(HandleRefusal::Range);
         };
         match next_of(self.server.state().sessions.session(no).incarnation) {
             Some(next) => Ok((no, next)),
-            None => Err(Refusal::Range),
+            None => Err(HandleRefusal::Range),
         }
     }
 
     /// A client went away. At the server its next incarnation begins, which belongs to nobody, so
     /// that nobody waits for it. The frames sent have a Welcome to it.
     #[tactic(auto, using(crate::proofs::Left::left_by))]
-    pub fn leave(&mut self, alloc: Global, client: u32) -> Result<(), Refusal>
+    pub fn leave(&mut self, alloc: Global, client: u32) -> Result<(), HandleRefusal>
         ensures ok { IfOk result (λ _. Leaves self.old.server client
             (messages_of self.new.said) self.new.server) }
         ensures fetched { IsOk result → self.old.said ≡ [] }
@@ -170,13 +170,13 @@ impl PolledServer {
                 self.said = Said::of(&limits, said);
                 Ok(())
             }
-            Err(refused) => Err(Refusal::Server(refused.0)),
+            Err(refused) => Err(HandleRefusal::Server(refused.0)),
         }
     }
 
     /// Makes the batch that is to be written next. Returns the number of its last commit, and how
     /// many pages it has. `Nothing` if every commit is on disk.
-    pub fn make_batch(&mut self, alloc: Global) -> Result<(CommitNo, usize), Refusal>
+    pub fn make_batch(&mut self, alloc: Global) -> Result<(CommitNo, usize), HandleRefusal>
         ensures server { self.new.server ≡ self.old.server }
         ensures said { self.new.said ≡ self.old.said }
         ensures made { IfOk result (λ made.
@@ -185,7 +185,7 @@ impl PolledServer {
         ensures unchanged { OnErr result (self.new ≡ self.old) }
     {
         match self.server.batch(alloc)? {
-            None => Err(Refusal::Nothing),
+            None => Err(HandleRefusal::Nothing),
             Some(batch) => {
                 let answer = (batch.number(), batch.pages().len());
                 self.batch = Some(batch);
@@ -198,7 +198,7 @@ impl PolledServer {
     /// `Nothing` if there is no batch or no such place in it; `Room` if the room isn't as long as
     /// the page.
     #[tactic(auto, using(crate::proofs::Shown::page_shown))]
-    pub fn batch_page(&self, at: usize, room: &mut [u8]) -> Result<(u32, u64), Refusal>
+    pub fn batch_page(&self, at: usize, room: &mut [u8]) -> Result<(u32, u64), HandleRefusal>
         ensures ok { IfOk result (λ shown. page_of_batch self.now.batch at ≡ Some (record {
           page = shown.0;
           version = shown.1;
@@ -208,13 +208,13 @@ impl PolledServer {
         ensures unchanged { OnErr result (room.new ≡ room.old) }
     {
         let Some(batch) = &self.batch else {
-            return Err(Refusal::Nothing);
+            return Err(HandleRefusal::Nothing);
         };
         let Some(page) = batch.pages().get(at) else {
-            return Err(Refusal::Nothing);
+            return Err(HandleRefusal::Nothing);
         };
         if room.len() != page.bytes.len() {
-            return Err(Refusal::Room);
+            return Err(HandleRefusal::Room);
         }
         room.copy_from_slice(page.bytes.as_slice());
         Ok((page.page.get(), page.version.get()))
@@ -232,7 +232,7 @@ impl PolledServer {
     }
 
     /// The commits up to this number are on disk now. A Done is sent for each that wasn't before.
-    pub fn flushed(&mut self, alloc: Global, number: u64) -> Result<(), Refusal>
+    pub fn flushed(&mut self, alloc: Global, number: u64) -> Result<(), HandleRefusal>
         ensures ok { IfOk result (λ _. Does self.old.server (ReachesDisk number)
             (messages_of self.new.said) self.new.server) }
         ensures fetched { IsOk result → self.old.said ≡ [] }
@@ -247,10 +247,10 @@ impl PolledServer {
     {
         self.said.check_fetched()?;
         let Some(number) = CommitNo::checked(number) else {
-            return Err(Refusal::Range);
+            return Err(HandleRefusal::Range);
         };
         if !self.server.can_flush(number) {
-            return Err(Refusal::Range);
+            return Err(HandleRefusal::Range);
         }
         let limits = *self.server.limits();
         let said = self.server.flushed(alloc, number)?;
@@ -261,7 +261,7 @@ impl PolledServer {
 
     /// Forgets the commits up to this number: they leave memory. `Range` if no commit has this
     /// number, or not all of them are on disk.
-    pub fn forget(&mut self, number: u64) -> Result<(), Refusal>
+    pub fn forget(&mut self, number: u64) -> Result<(), HandleRefusal>
         ensures ok { IfOk result (λ _. self.new.server ≡ forgot self.old.server number) }
         ensures on_disk { IsOk result → number ≤ (server_of self.old.server).flushed }
         ensures why { Decides (not_on_disk self.old.server number) never result }
@@ -270,10 +270,10 @@ impl PolledServer {
         ensures batch { self.new.batch ≡ self.old.batch }
     {
         let Some(number) = CommitNo::checked(number) else {
-            return Err(Refusal::Range);
+            return Err(HandleRefusal::Range);
         };
         if number.get() > self.server.state().commits.last_flushed() {
-            return Err(Refusal::Range);
+            return Err(HandleRefusal::Range);
         }
         self.server.forget(number);
         Ok(())
@@ -285,7 +285,7 @@ impl PolledServer {
         alloc: Global,
         room: &mut [u8],
         size: &mut usize,
-    ) -> Result<ClientNo, Refusal>
+    ) -> Result<ClientNo, HandleRefusal>
         ensures ok { IfOk result (λ client. Fetches self.old.said room.old room.new size.new client
             self.new.said) }
         ensures why { Decides (said_cause self.old.said)

@@ -1,7 +1,7 @@
 //! Why a call is refused.
 ghost use Rattle.std.specs.Prelude.{◌≡◌, ◌≤◌};
 ghost use Rattle.cb_handle.specs.Faults.{client_number, frame_number, limit_number, number_of};
-ghost use Rattle.cb_handle.specs.declared.refusal.Refusal.TheVariants.{Memory};
+ghost use Rattle.cb_handle.specs.declared.refusal.HandleRefusal.TheVariants.{Memory};
 
 use cb_client::ClientFault;
 use cb_frame::FrameFault;
@@ -11,7 +11,7 @@ use std::alloc::AllocError;
 
 /// Why a call is refused. Nothing changes then, unless the call says so.
 #[derive(Clone, Copy, Debug, PartialEq, Eq)]
-pub enum Refusal {
+pub enum HandleRefusal {
     /// By the client.
     Client(ClientFault),
     /// By the server.
@@ -36,33 +36,33 @@ pub enum Refusal {
     Held,
 }
 
-impl From<AllocError> for Refusal {
+impl From<AllocError> for HandleRefusal {
     ghost from_gives = { λ _ e. e ≡ Memory };
 
-    fn from(_e: AllocError) -> Refusal {
-        Refusal::Memory
+    fn from(_e: AllocError) -> HandleRefusal {
+        HandleRefusal::Memory
     }
 }
 
-impl Refusal {
+impl HandleRefusal {
     /// Its number, which is never 0.
     pub fn number(self) -> u32
         ensures value { result ≡ number_of self }
         ensures some { 1 ≤ result }
     {
         match self {
-            Refusal::Client(fault) => of_client(fault),
-            Refusal::Server(ServerFault::Exhausted) => 12,
-            Refusal::Server(ServerFault::Memory) => 13,
-            Refusal::Memory => 13,
-            Refusal::Frame(fault) => of_frame(fault),
-            Refusal::Limits(fault) => of_limits(fault),
-            Refusal::OtherKind => 769,
-            Refusal::Unfetched => 770,
-            Refusal::Nothing => 771,
-            Refusal::Room => 772,
-            Refusal::Range => 773,
-            Refusal::Held => 774,
+            HandleRefusal::Client(fault) => of_client(fault),
+            HandleRefusal::Server(ServerFault::Exhausted) => 12,
+            HandleRefusal::Server(ServerFault::Memory) => 13,
+            HandleRefusal::Memory => 13,
+            HandleRefusal::Frame(fault) => of_frame(fault),
+            HandleRefusal::Limits(fault) => of_limits(fault),
+            HandleRefusal::OtherKind => 769,
+            HandleRefusal::Unfetched => 770,
+            HandleRefusal::Nothing => 771,
+            HandleRefusal::Room => 772,
+            HandleRefusal::Range => 773,
+            HandleRefusal::Held => 774,
         }
     }
 }

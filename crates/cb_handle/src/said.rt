@@ -6,10 +6,10 @@ ghost use Rattle.std.specs.Option.{option_copied};
 ghost use Rattle.cb_frame.specs.Grammar.{Fits, FitsSome};
 ghost use Rattle.cb_handle.specs.Causes.{Decides, after_fetch, said_cause, said_may};
 ghost use Rattle.cb_handle.specs.Fetching.{Fetches};
-ghost use Rattle.cb_handle.specs.declared.refusal.Refusal.{Refusal as Why};
-ghost use Rattle.cb_handle.specs.declared.refusal.Refusal.TheVariants as refusal;
+ghost use Rattle.cb_handle.specs.declared.refusal.HandleRefusal.{HandleRefusal as Why};
+ghost use Rattle.cb_handle.specs.declared.refusal.HandleRefusal.TheVariants as refusal;
 
-use crate::refusal::Refusal;
+use crate::refusal::HandleRefusal;
 use cb_frame::{Frame, encode};
 use cb_page::{ClientNo, Limits};
 use std::alloc::Global;
@@ -85,7 +85,7 @@ impl Said {
     }
 
     /// Refuses if something is still to be fetched.
-    pub fn check_fetched(&self) -> Result<(), Refusal>
+    pub fn check_fetched(&self) -> Result<(), HandleRefusal>
         ensures first { IfErr result (λ refused. (rest : Option Why)
             → after_fetch self.now rest ≡ Some refused) }
         ensures fetched { IsOk result → self.now ≡ [] }
@@ -93,7 +93,7 @@ impl Said {
         if self.is_empty() {
             Ok(())
         } else {
-            Err(Refusal::Unfetched)
+            Err(HandleRefusal::Unfetched)
         }
     }
 
@@ -138,7 +138,7 @@ impl Said {
         alloc: Global,
         room: &mut [u8],
         size: &mut usize,
-    ) -> Result<ClientNo, Refusal>
+    ) -> Result<ClientNo, HandleRefusal>
         ensures ok { IfOk result (λ client. Fetches self.old room.old room.new size.new client
             self.new) }
         ensures why { Decides (said_cause self.old) (said_may self.old (length room.old) size.new)
@@ -148,14 +148,14 @@ impl Said {
         ensures size { IfErr result (λ refused. refused ≢ refusal.Room → size.new ≡ size.old) }
     {
         let Some(frame) = self.oldest() else {
-            return Err(Refusal::Nothing);
+            return Err(HandleRefusal::Nothing);
         };
         let bytes = encode(alloc, frame)?;
         let client = frame.client;
         let len = bytes.len();
         *size = len;
         if len > room.len() {
-            return Err(Refusal::Room);
+            return Err(HandleRefusal::Room);
         }
         put_front(bytes.as_slice(), room);
         self.remove_oldest();

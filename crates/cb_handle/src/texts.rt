@@ -4,7 +4,7 @@ ghost use Rattle.cb_handle.specs.Faults.{call_text, fault_text, frame_text, hand
 ghost use Rattle.cb_handle.specs.Faults.{limit_text};
 
 /// What the number that a call returned means, in English: the text of the fault with that
-/// `Refusal::number`, or `done` for 0. For any other number it is `no such fault`.
+/// `HandleRefusal::number`, or `done` for 0. For any other number it is `no such fault`.
 #[tactic(auto, unfolding(crate::specs::Faults::fault_text))]
 pub fn fault_text(number: u32) -> &'static str
     ensures { result.now ≡ fault_text number }

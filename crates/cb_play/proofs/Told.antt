@@ -6,7 +6,7 @@ use Rattle.sqlite.specs.Held.{Held}
 use Rattle.sqlite.specs.Store.{Ghosts}
 use Rattle.cb_console.specs.declared.config.Config.{Config}
 use Rattle.cb_run.specs.Outcomes.{PrintsCounted, PrintsRun}
-use Rattle.cb_run.specs.declared.ending.Ending.{Ending}
+use Rattle.cb_run.specs.declared.ending.EarlyEnding.{EarlyEnding}
 use Rattle.cb_run.specs.declared.printing.Counted.{Counted}
 use Rattle.cb_play.specs.StoreRuns.{HasAll, PrintsOver, PrintsReached, all_jobs}
 use Rattle.cb_play.specs.declared.store_file.Reach.{Reach}
@@ -18,19 +18,19 @@ use Rattle.cb_run.specs.Runs.{IsCounted, ending_of_shelf}
 use Rattle.cb_shelf.specs.declared.fault.ShelfFault.{ShelfFault}
 
 -- an ending counts nothing
-pub told_ending : {E : Type 0} (Are : Option Bool → Counted → Type 0) (e : Ending) (result : Result Printed E) (old_out new_out old_err new_err : Option (List ℕ))
+pub told_ending : {E : Type 0} (Are : Option Bool → Counted → Type 0) (e : EarlyEnding) (result : Result Printed E) (old_out new_out old_err new_err : Option (List ℕ))
     → IfOk result (λ p. PrintsRun (Err e) p.status old_out new_out old_err new_err)
     → IfOk result (λ p. PrintsCounted (Are p.run) p.status old_out new_out old_err new_err)
 told_ending Are e (Ok printed) old_out new_out old_err new_err prints = record { outcome = Err e; prints = prints; counts = tt }
 told_ending Are e (Err error) old_out new_out old_err new_err prints = tt
 
 -- the fault of a store that was refused is told
-pub told_refusal : {E : Type 0} (Are : Option Bool → Counted → Type 0) (came : Reach) (fault : ShelfFault) (e : Ending) (result : Result Printed E) (old_out new_out old_err new_err : Option (List ℕ))
+pub told_refusal : {E : Type 0} (Are : Option Bool → Counted → Type 0) (came : Reach) (fault : ShelfFault) (e : EarlyEnding) (result : Result Printed E) (old_out new_out old_err new_err : Option (List ℕ))
     → came ≡ reach.Refused fault → e ≡ ending_of_shelf fault → IfOk result (λ p. PrintsRun (Err e) p.status old_out new_out old_err new_err)
     → IfOk result (λ p. PrintsReached came (Are p.run) p.status old_out new_out old_err new_err)
 told_refusal Are came fault e result old_out new_out old_err new_err refused is prints =
     subst (λ (r : Reach). IfOk result (λ p. PrintsReached r (Are p.run) p.status old_out new_out old_err new_err)) (sym refused)
-    (subst (λ (x : Ending). IfOk result (λ p. PrintsRun (Err x) p.status old_out new_out old_err new_err)) is prints)
+    (subst (λ (x : EarlyEnding). IfOk result (λ p. PrintsRun (Err x) p.status old_out new_out old_err new_err)) is prints)
 
 -- what a run over a store that was read counts is told
 pub told_read : {E : Type 0} (Are : Option Bool → Counted → Type 0) (came : Reach) (result : Result Printed E) (old_out new_out old_err new_err : Option (List ℕ))

@@ -9,7 +9,9 @@ use crate::store_file::{StoreEnd, StoreFile};
 use cb_commit::Store;
 use cb_console::{Config, print_refusal, run_settings};
 use cb_page::{ClientNo, Incarnation, Limits};
-use cb_run::{Ending, Gate, PastRun, RunEnd, Turn, Watch, of_shelf, print_run, run_on_watched};
+use cb_run::{
+    EarlyEnding, Gate, PastRun, RunEnd, Turn, Watch, of_shelf, print_run, run_on_watched,
+};
 use cb_shelf::{Life, Shelf};
 use cb_station::{Office, Station};
 use sqlite::{Alter, Connection};
@@ -272,7 +274,7 @@ fn printed_of(ended: RunEnd<'_>) -> Printed
 }
 
 /// Says why nothing was counted.
-fn refuse<O: Write, E: Write>(ending: Ending, out: &mut O, err: &mut E) -> io::Result<Printed>
+fn refuse<O: Write, E: Write>(ending: EarlyEnding, out: &mut O, err: &mut E) -> io::Result<Printed>
     ensures prints { IfOk result (λ printed. PrintsRun (Err ending) printed.status
         (O.contents out.old) (O.contents out.new) (E.contents err.old) (E.contents err.new)) }
     ensures none { IfOk result (λ printed. printed.run ≡ None) }
@@ -290,7 +292,7 @@ fn office_over<W: Watch>(
     floor: Incarnation,
     jobs: u32,
     watch: &mut W,
-) -> Result<Office, Ending>
+) -> Result<Office, EarlyEnding>
     requires plain { limits.now.keep_write ≡ false }
     requires store { IsOf limits.now store }
     ensures { IfOk result (λ office. office.expected ≡ limits.now.clients) }
@@ -299,6 +301,6 @@ fn office_over<W: Watch>(
     watch.begins(all, store.number());
     match Station::resume(alloc, limits, store, floor) {
         Ok(station) => Ok(Office::new(station, usize::from(limits.clients()))),
-        Err(_) => Err(Ending::Memory),
+        Err(_) => Err(EarlyEnding::Memory),
     }
 }

@@ -1,7 +1,7 @@
 -- What the counts of a run are.
 use Rattle.std.proofs.Common.{◌≡◌, ◌≤◌, ℕ, Bool, true, Option, Some, None, Result, Ok, Err, IfOk, arith, refl, subst}
 use Rattle.cb_run.specs.declared.ending.ClientEnding.{ClientEnding}
-use Rattle.cb_run.specs.declared.ending.Ending.{Ending}
+use Rattle.cb_run.specs.declared.ending.EarlyEnding.{EarlyEnding}
 use Rattle.cb_run.specs.Runs.{adds_up, ending_of_run}
 use Rattle.cb_shelf.specs.declared.fault.ShelfFault.{ShelfFault}
 
@@ -16,4 +16,4 @@ ends_as_flushed (Ok done) (Some ending) = tt
 ends_as_flushed (Ok done) None = refl
 
 pub ended_well : {T : Type 0} (flushed : Result T ShelfFault) (told : Option ClientEnding) (ended : T) → ending_of_run flushed told ≡ Ok ended → flushed ≡ Ok ended
-ended_well {T} flushed told ended e = subst (λ (r : Result T Ending). IfOk r (λ x. flushed ≡ Ok x)) e (ends_as_flushed flushed told)
+ended_well {T} flushed told ended e = subst (λ (r : Result T EarlyEnding). IfOk r (λ x. flushed ≡ Ok x)) e (ends_as_flushed flushed told)

@@ -1,7 +1,7 @@
 -- How a client's part of a run ends.
 use Rattle.std.proofs.Common.{◌≡◌, ℕ, Option, Some, None, Result, Ok, Err, IfOk, OnOk, refl, subst, sym}
 use Rattle.cb_hands.specs.Hands.{HandState}
-use Rattle.cb_run.specs.declared.ending.Ending.{Ending}
+use Rattle.cb_run.specs.declared.ending.EarlyEnding.{EarlyEnding}
 use Rattle.cb_run.specs.Ends.{HasLeft}
 use Rattle.cb_run.specs.Parts.{IsEndOf, end_of_part, told_of}
 use Rattle.cb_run.specs.Runs.{ending_of_worker}
@@ -20,7 +20,7 @@ handed_on (Err fault) ended hand e l = tt
 
 module _ (N : Type 0) (client : ℕ) where
   -- who told of a fault was that client
-  told_so : (told : Option Ending) → IsEndOf {N = N} client (told_of client told)
+  told_so : (told : Option EarlyEnding) → IsEndOf {N = N} client (told_of client told)
   told_so (Some ending) = refl
   told_so None = tt
 

@@ -4,12 +4,12 @@ use Rattle.std.specs.Prelude.{codes, nat_le, if◌then◌else◌, IfOk}
 use Rattle.std.specs.Fmt.{decimal}
 use Rattle.std.specs.Io.KnownBytes.{Appends}
 use Rattle.cb_run.specs.declared.ending.ClientEnding.{ClientEnding}
-use Rattle.cb_run.specs.declared.ending.Ending.{Ending}
-use Rattle.cb_run.specs.declared.ending.Ending.TheVariants as ending
+use Rattle.cb_run.specs.declared.ending.EarlyEnding.{EarlyEnding}
+use Rattle.cb_run.specs.declared.ending.EarlyEnding.TheVariants as ending
 use Rattle.cb_run.specs.declared.printing.Counted.{Counted}
 
 -- the line of an ending
-abbrev pub line_of : Ending → List ℕ
+abbrev pub line_of : EarlyEnding → List ℕ
 line_of ending.Shape = codes "store: Shape"
 line_of ending.Store = codes "store: Store"
 line_of ending.Exhausted = codes "store: Exhausted"
@@ -17,7 +17,7 @@ line_of ending.Worker = codes "worker: Fault"
 line_of ending.Memory = codes "memory"
 
 -- the status of an ending: 4 for want of memory, else 3
-abbrev pub status_of : Ending → ℕ
+abbrev pub status_of : EarlyEnding → ℕ
 status_of ending.Memory = 4
 status_of _ = 3
 
@@ -34,7 +34,7 @@ counted_text counted =
 
 -- What is printed of a run, with the status: the counts on the output, and 0; or the line of its
 -- ending on the standard error, and nothing on the output.
-abbrev pub PrintsRun : Result Counted Ending → ℕ
+abbrev pub PrintsRun : Result Counted EarlyEnding → ℕ
     → Option (List ℕ) → Option (List ℕ) → Option (List ℕ) → Option (List ℕ) → Type 0
 PrintsRun (Ok counted) status old_out new_out old_err new_err =
     (status ≡ 0) × Appends old_out new_out (counted_text counted) × (new_err ≡ old_err)
@@ -45,6 +45,6 @@ PrintsRun (Err ending) status old_out new_out old_err new_err =
 -- What is printed of some outcome; where all was done, the counts that are told are such.
 pub record PrintsCounted (Are : Counted → Type 0) (status : ℕ)
     (old_out new_out old_err new_err : Option (List ℕ)) : Type 0 where
-  pub outcome : Result Counted Ending
+  pub outcome : Result Counted EarlyEnding
   pub prints : PrintsRun outcome status old_out new_out old_err new_err
   pub counts : IfOk outcome Are

@@ -1,6 +1,6 @@
 -- How clients' parts of a run end. This project's rules.
 use Rattle.std.specs.Prelude.{◌≡◌, ℕ, ⊤, Result, Ok, Err, Option, Some, None}
-use Rattle.cb_run.specs.declared.ending.Ending.{Ending}
+use Rattle.cb_run.specs.declared.ending.EarlyEnding.{EarlyEnding}
 use Rattle.cb_run.specs.Runs.{ending_of_worker, of_client}
 use Rattle.cb_run.specs.declared.parts.PartEnd.{PartEnd}
 use Rattle.cb_run.specs.declared.parts.PartEnd.TheVariants as part
@@ -12,7 +12,7 @@ quiet_parts (part.Noted told) = 0
 quiet_parts _ = 1
 
 -- that fault was noted of the client; one that was halted tells of none
-abbrev pub told_of : {N : Type 0} → (client : ℕ) → Option Ending → PartEnd N
+abbrev pub told_of : {N : Type 0} → (client : ℕ) → Option EarlyEnding → PartEnd N
 told_of client (Some ending) = part.Noted (of_client client ending)
 told_of client None = part.Halted
 

@@ -6,8 +6,8 @@ use Rattle.cb_commit.specs.Stores.{StoreState}
 use Rattle.cb_run.specs.Counters.{sum_of_counters}
 use Rattle.cb_station.specs.declared.office_fault.OfficeFault.TheVariants as office
 use Rattle.cb_run.specs.declared.ending.ClientEnding.{ClientEnding}
-use Rattle.cb_run.specs.declared.ending.Ending.{Ending}
-use Rattle.cb_run.specs.declared.ending.Ending.TheVariants as ending
+use Rattle.cb_run.specs.declared.ending.EarlyEnding.{EarlyEnding}
+use Rattle.cb_run.specs.declared.ending.EarlyEnding.TheVariants as ending
 use Rattle.cb_run.specs.declared.printing.Counted.{Counted}
 use Rattle.cb_shelf.specs.Reading.{Holds}
 use Rattle.cb_shelf.specs.declared.fault.ShelfFault.{ShelfFault}
@@ -21,13 +21,13 @@ use Rattle.sqlite.specs.State.{HasCleanDisk}
 use Rattle.sqlite.specs.Store.{Ghosts}
 
 -- by a fault of the flusher or of the tables
-abbrev pub ending_of_shelf : ShelfFault → Ending
+abbrev pub ending_of_shelf : ShelfFault → EarlyEnding
 ending_of_shelf shelf.Shape = ending.Shape
 ending_of_shelf shelf.Store = ending.Store
 ending_of_shelf shelf.Memory = ending.Memory
 
 -- by a worker's fault; a halted worker says nothing of why
-abbrev pub ending_of_worker : WorkerFault → Option Ending
+abbrev pub ending_of_worker : WorkerFault → Option EarlyEnding
 ending_of_worker worker.Halted = None
 ending_of_worker (worker.Client client.Memory) = Some ending.Memory
 ending_of_worker (worker.Client client.Exhausted) = Some ending.Exhausted
@@ -37,12 +37,12 @@ ending_of_worker (worker.Office office.Exhausted) = Some ending.Exhausted
 ending_of_worker (worker.Office _) = Some ending.Worker
 
 -- that is how the client's part ended
-abbrev pub of_client : (client : ℕ) → Ending → ClientEnding
+abbrev pub of_client : (client : ℕ) → EarlyEnding → ClientEnding
 of_client client told = record { client = client; ending = told }
 
 -- by the flusher's fault, else by that of the lowest client that told of one
 abbrev pub ending_of_run : {T : Type 0} → Result T ShelfFault → Option ClientEnding
-    → Result T Ending
+    → Result T EarlyEnding
 ending_of_run (Err fault) told = Err (ending_of_shelf fault)
 ending_of_run (Ok done) (Some told) = Err told.ending
 ending_of_run (Ok done) None = Ok done

@@ -8,7 +8,7 @@ use crate::parts::{PartEnd, Parts};
 use crate::results::Results;
 use crate::run::Run;
 use crate::working::work_and_leave;
-use crate::{Ending, Gate, Noted};
+use crate::{EarlyEnding, Gate, Noted};
 use cb_client::ClientFault;
 use cb_page::{ClientNo, Limits};
 use cb_station::{Office, OfficeFault};
@@ -41,7 +41,7 @@ pub(crate) fn give_up<R: Wait, N: Drop>(
     office: &Office,
     parts: &Mutex<Parts<N>>,
     client: u16,
-    ending: Ending,
+    ending: EarlyEnding,
 ) -> Noted<N>
     ensures { result ≡ of_client client ending }
 {

@@ -7,7 +7,7 @@ ghost use Rattle.cb_run.specs.Runs.{IsSumIn, adds_up};
 
 use crate::faults::of_shelf;
 use crate::results::Results;
-use crate::{Ending, JobDone, Tally, Watch, counter_sum};
+use crate::{EarlyEnding, JobDone, Tally, Watch, counter_sum};
 use cb_page::{CommitNo, Limits};
 use cb_shelf::Shelf;
 use sqlite::Alter;
@@ -36,7 +36,7 @@ impl<'a, R: Wait, W: Watch> Counting<'a, R, W> {
         jobs: u32,
         results: &'a Results,
         watch: &'a mut W,
-    ) -> Result<Counting<'a, R, W>, Ending> {
+    ) -> Result<Counting<'a, R, W>, EarlyEnding> {
         match Tally::new(alloc, limits.clients(), jobs) {
             Ok(tally) => Ok(Counting {
                 rt,
@@ -45,13 +45,13 @@ impl<'a, R: Wait, W: Watch> Counting<'a, R, W> {
                 tally,
                 odd: false,
             }),
-            Err(_) => Err(Ending::Memory),
+            Err(_) => Err(EarlyEnding::Memory),
         }
     }
 
     /// How many jobs were done, once all that did them have ended. A double or a stranger is a
     /// worker's fault.
-    pub(crate) fn committed(&mut self) -> Result<u64, Ending> {
+    pub(crate) fn committed(&mut self) -> Result<u64, EarlyEnding> {
         count_results(self.rt, self.results, &mut self.tally, &mut self.odd);
         committed(&self.tally, self.odd)
     }
@@ -96,12 +96,12 @@ fn count(tally: &mut Tally, done: JobDone) -> bool
 }
 
 /// How many jobs were counted; a worker's fault where one result was odd.
-fn committed(tally: &Tally, odd: bool) -> Result<u64, Ending>
-    ensures odd { odd ≡ true → result ≡ Err Ending.Worker }
+fn committed(tally: &Tally, odd: bool) -> Result<u64, EarlyEnding>
+    ensures odd { odd ≡ true → result ≡ Err EarlyEnding.Worker }
     ensures counted { odd ≡ false → result ≡ Ok (jobs_done tally.now) }
 {
     if odd {
-        return Err(Ending::Worker);
+        return Err(EarlyEnding::Worker);
     }
     Ok(tally.committed())
 }
@@ -121,7 +121,7 @@ pub(crate) fn adds_up(committed: u64, all: u64, cut_off: bool) -> bool
 }
 
 /// The sum of the counters as the tables have them.
-pub(crate) fn sum_up<S: Alter>(alloc: Global, shelf: &mut Shelf<S>) -> Result<u64, Ending>
+pub(crate) fn sum_up<S: Alter>(alloc: Global, shelf: &mut Shelf<S>) -> Result<u64, EarlyEnding>
     ensures summed { IfOk result (λ sum.
         HasCleanDisk (state S.Store shelf.new.conn)
         → IsTrue (state S.Store shelf.new.conn).is_open

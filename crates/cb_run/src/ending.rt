@@ -7,7 +7,7 @@ use std::marker::{Model, PhantomData};
 
 /// Why a run ended before all was done. The text is its line on the standard error.
 #[derive(Clone, Copy, Debug, PartialEq, Eq)]
-pub enum Ending {
+pub enum EarlyEnding {
     /// The tables are of another shape.
     Shape,
     /// The database refused.
@@ -20,28 +20,31 @@ pub enum Ending {
     Memory,
 }
 
-impl Ending {
+impl EarlyEnding {
     /// The program's status.
     pub fn status(self) -> u8
         ensures { result ≡ status_of self }
     {
         match self {
-            Ending::Memory => 4,
-            Ending::Shape | Ending::Store | Ending::Exhausted | Ending::Worker => 3,
+            EarlyEnding::Memory => 4,
+            EarlyEnding::Shape
+            | EarlyEnding::Store
+            | EarlyEnding::Exhausted
+            | EarlyEnding::Worker => 3,
         }
     }
 }
 
-impl fmt::Display for Ending {
+impl fmt::Display for EarlyEnding {
     ghost output = { λ ending. Some (line_of ending) };
 
     fn fmt<W: fmt::Write>(&self, f: &mut fmt::Formatter<W>) -> fmt::Result {
         match self {
-            Ending::Shape => write!(f, "store: Shape"),
-            Ending::Store => write!(f, "store: Store"),
-            Ending::Exhausted => write!(f, "store: Exhausted"),
-            Ending::Worker => write!(f, "worker: Fault"),
-            Ending::Memory => write!(f, "memory"),
+            EarlyEnding::Shape => write!(f, "store: Shape"),
+            EarlyEnding::Store => write!(f, "store: Store"),
+            EarlyEnding::Exhausted => write!(f, "store: Exhausted"),
+            EarlyEnding::Worker => write!(f, "worker: Fault"),
+            EarlyEnding::Memory => write!(f, "memory"),
         }
     }
 }
@@ -50,7 +53,7 @@ impl fmt::Display for Ending {
 #[derive(Clone, Copy)]
 pub struct ClientEnding {
     pub client: u16,
-    pub ending: Ending,
+    pub ending: EarlyEnding,
 }
 
 /// Says that a client's ending was noted in its run's [`FirstEnding`]. Only [`FirstEnding::note`]
@@ -71,7 +74,7 @@ impl<N> Model for Noted<N> {
 
 impl<N> Noted<N> {
     /// That ending was noted.
-    fn of(client: u16, ending: Ending) -> Noted<N>
+    fn of(client: u16, ending: EarlyEnding) -> Noted<N>
         ensures { result ≡ record { client = client; ending = ending } }
     {
         let told = ClientEnding { client, ending };
@@ -105,7 +108,7 @@ impl<N> FirstEnding<N> {
     }
 
     /// Notes how a client's part ended, unless a lower client's is noted.
-    pub fn note(&mut self, client: u16, ending: Ending) -> Noted<N>
+    pub fn note(&mut self, client: u16, ending: EarlyEnding) -> Noted<N>
         ensures lowest { self.new.told
             ≡ lower self.old.told (record { client = client; ending = ending }) }
         ensures noted { result ≡ record { client = client; ending = ending } }

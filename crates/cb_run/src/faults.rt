@@ -2,35 +2,35 @@
 ghost use Rattle.std.specs.Prelude.{◌≡◌};
 ghost use Rattle.cb_run.specs.Runs.{ending_of_run, ending_of_shelf, ending_of_worker};
 
-use crate::{ClientEnding, Ending};
+use crate::{ClientEnding, EarlyEnding};
 use cb_client::ClientFault;
 use cb_shelf::ShelfFault;
 use cb_station::OfficeFault;
 use cb_worker::WorkerFault;
 
 /// The ending of a run by a fault of the flusher or of the tables.
-pub fn of_shelf(fault: ShelfFault) -> Ending
+pub fn of_shelf(fault: ShelfFault) -> EarlyEnding
     ensures { result ≡ ending_of_shelf fault }
 {
     match fault {
-        ShelfFault::Shape => Ending::Shape,
-        ShelfFault::Store => Ending::Store,
-        ShelfFault::Memory => Ending::Memory,
+        ShelfFault::Shape => EarlyEnding::Shape,
+        ShelfFault::Store => EarlyEnding::Store,
+        ShelfFault::Memory => EarlyEnding::Memory,
     }
 }
 
 /// By a worker's fault; a halted worker says nothing of why.
-pub(crate) fn of_worker(fault: WorkerFault) -> Option<Ending>
+pub(crate) fn of_worker(fault: WorkerFault) -> Option<EarlyEnding>
     ensures { result ≡ ending_of_worker fault }
 {
     match fault {
         WorkerFault::Halted => None,
-        WorkerFault::Client(ClientFault::Memory) => Some(Ending::Memory),
-        WorkerFault::Office(OfficeFault::Memory) => Some(Ending::Memory),
-        WorkerFault::Client(ClientFault::Exhausted) => Some(Ending::Exhausted),
-        WorkerFault::Office(OfficeFault::Exhausted) => Some(Ending::Exhausted),
-        WorkerFault::Client(_) => Some(Ending::Worker),
-        WorkerFault::Office(_) => Some(Ending::Worker),
+        WorkerFault::Client(ClientFault::Memory) => Some(EarlyEnding::Memory),
+        WorkerFault::Office(OfficeFault::Memory) => Some(EarlyEnding::Memory),
+        WorkerFault::Client(ClientFault::Exhausted) => Some(EarlyEnding::Exhausted),
+        WorkerFault::Office(OfficeFault::Exhausted) => Some(EarlyEnding::Exhausted),
+        WorkerFault::Client(_) => Some(EarlyEnding::Worker),
+        WorkerFault::Office(_) => Some(EarlyEnding::Worker),
     }
 }
 
@@ -39,7 +39,7 @@ pub(crate) fn of_worker(fault: WorkerFault) -> Option<Ending>
 pub fn of_run<T: Drop>(
     flushed: Result<T, ShelfFault>,
     told: Option<ClientEnding>,
-) -> Result<T, Ending>
+) -> Result<T, EarlyEnding>
     ensures { result ≡ ending_of_run flushed told }
 {
     match (flushed, told) {

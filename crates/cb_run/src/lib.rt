@@ -9,7 +9,7 @@
 //!   [`flush_in_tries`] tries it three times in all.
 //! - [`run_on`] is the body of `run`: workers on threads of their own, the flusher on the calling
 //!   one. Results are counted as batches are written. All jobs are committed where it says that the
-//!   run is done, unless somebody else cut it off. An [`Ending`] is why a run ended before that:
+//!   run is done, unless somebody else cut it off. An [`EarlyEnding`] is why it ended before that:
 //!   [`of_run`] says which fault ends a run, and [`of_shelf`] how one of the store does.
 //!   [`print_run`] prints the outcome.
 //! - [`flush_loop_watched`], [`flush_again_watched`] and [`run_on_watched`] are the same, and tell
@@ -43,7 +43,7 @@ mod watch;
 mod working;
 
 pub use counters::{count_up, counter, counter_sum};
-pub use ending::{ClientEnding, Ending, FirstEnding, Noted};
+pub use ending::{ClientEnding, EarlyEnding, FirstEnding, Noted};
 pub use faults::{of_run, of_shelf};
 pub use flusher::FlushStop;
 pub use gate::{Gate, Turn};

@@ -6,7 +6,7 @@ ghost use Rattle.cb_run.specs.Runs.{ending_of_run, of_client};
 
 use crate::faults::of_run;
 use crate::over::Over;
-use crate::{Ending, FirstEnding, Noted};
+use crate::{EarlyEnding, FirstEnding, Noted};
 use cb_shelf::ShelfFault;
 use cb_worker::Left;
 use std::marker::Model;
@@ -43,7 +43,7 @@ impl<N> Parts<N> {
     }
 
     /// Notes by which fault a client's part ended.
-    pub(crate) fn note(&mut self, client: u16, ending: Ending) -> Noted<N>
+    pub(crate) fn note(&mut self, client: u16, ending: EarlyEnding) -> Noted<N>
         ensures noted { result ≡ of_client client ending }
         ensures lowest { self.new.faults.told
             ≡ lower self.old.faults.told (of_client client ending) }
@@ -73,7 +73,7 @@ impl<N> Parts<N> {
         &self,
         flushed: Result<Over<'a>, ShelfFault>,
         clients: u16,
-    ) -> Result<RunOver<'a>, Ending>
+    ) -> Result<RunOver<'a>, EarlyEnding>
         ensures over { IfOk result (λ over. flushed.entry ≡ Ok over) }
         ensures faults { IfErr (ending_of_run flushed.entry self.now.faults.told)
             (λ ending. result ≡ Err ending) }
@@ -81,7 +81,7 @@ impl<N> Parts<N> {
     {
         let over = of_run(flushed, self.faults.told)?;
         if self.quiet < clients {
-            return Err(Ending::Worker);
+            return Err(EarlyEnding::Worker);
         }
         Ok(RunOver { over })
     }

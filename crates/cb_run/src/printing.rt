@@ -2,7 +2,7 @@
 ghost use Rattle.std.specs.Prelude.{◌≡◌, IfOk};
 ghost use Rattle.cb_run.specs.Outcomes.{PrintsRun};
 
-use crate::ending::Ending;
+use crate::ending::EarlyEnding;
 use std::io;
 use std::io::Write;
 
@@ -16,7 +16,7 @@ pub struct Counted {
 /// Prints the counts of a run to `out`, or to `err` why it ended before all was done. Returns the
 /// program's status. It fails only if a writer does.
 pub fn print_run<O: Write, E: Write>(
-    outcome: Result<Counted, Ending>,
+    outcome: Result<Counted, EarlyEnding>,
     out: &mut O,
     err: &mut E,
 ) -> io::Result<u8>

@@ -10,7 +10,7 @@ use crate::parts::{Parts, RunOver};
 use crate::results::Results;
 use crate::run::Run;
 use crate::tries::flush_in_tries;
-use crate::{Counted, Ending, Gate, Unwatched, Watch, print_run};
+use crate::{Counted, EarlyEnding, Gate, Unwatched, Watch, print_run};
 use cb_page::Limits;
 use cb_shelf::{Shelf, ShelfFault};
 use cb_station::Office;
@@ -120,7 +120,7 @@ pub fn run_and_count<'a, R, G, S, W>(
     jobs: u32,
     gate: &'a G,
     watch: &mut W,
-) -> Result<(Counted, RunOver<'a>), Ending>
+) -> Result<(Counted, RunOver<'a>), EarlyEnding>
 where
     R: Threads + Wait + Clock + Sync,
     G: Gate + Sync,
@@ -148,7 +148,7 @@ fn counted<'a, R, G, S, W>(
     shelf: &mut Shelf<S>,
     jobs: u32,
     watch: &mut W,
-) -> Result<(Counted, RunOver<'a>), Ending>
+) -> Result<(Counted, RunOver<'a>), EarlyEnding>
 where
     R: Threads + Wait + Clock + Sync,
     G: Gate + Sync,
@@ -159,14 +159,14 @@ where
         (Some done.1.cut_off) shelf.new.conn done.0) }
 {
     let Ok(results) = Results::new(run.alloc) else {
-        return Err(Ending::Memory);
+        return Err(EarlyEnding::Memory);
     };
     let mut counting = Counting::new(run.rt, run.alloc, limits, jobs, &results, watch)?;
     let over = run_all(run, limits, shelf, jobs, &mut counting, &results)?;
     let committed = counting.committed()?;
     let cut_off = over.is_cut_off();
     if !adds_up(committed, all_jobs(limits, jobs), cut_off) {
-        return Err(Ending::Worker);
+        return Err(EarlyEnding::Worker);
     }
     let sum = sum_up(run.alloc, shelf)?;
     Ok((Counted { committed, sum }, over))
@@ -188,7 +188,7 @@ fn run_all<'a, R, G, S, W>(
     jobs: u32,
     watch: &mut W,
     results: &Results,
-) -> Result<RunOver<'a>, Ending>
+) -> Result<RunOver<'a>, EarlyEnding>
 where
     R: Threads + Wait + Clock + Sync,
     G: Gate + Sync,
@@ -216,7 +216,7 @@ where
                     Err(_) => false,
                 };
                 if !started {
-                    let _noted = give_up(run.rt, run.office, parts, client, Ending::Memory);
+                    let _noted = give_up(run.rt, run.office, parts, client, EarlyEnding::Memory);
                 }
             }
             let flushed = flush_in_tries(run.rt, run.alloc, run.office, shelf, watch);

@@ -143,7 +143,7 @@ pushed : (c : ℕ) (a : WaitingAsk) (q : List WaitingAsk) → (a.client == c) �
 pushed c a [] e = rw e refl
 pushed c a (b ∷ q) e = ap (λ (x : List WaitingAsk). if b.client == c then x else b ∷ x) (pushed c a q e)
 
-at_least_one : (n : ℕ) (w : Option ℕ) → 1 ≤ messages_for n w
+pub at_least_one : (n : ℕ) (w : Option ℕ) → 1 ≤ messages_for n w
 at_least_one n None = omega arith
 at_least_one n (Some g) = omega arith
 

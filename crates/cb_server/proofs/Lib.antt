@@ -4,6 +4,7 @@
 -- Beginning: what a transaction that begins leaves of the engine.
 -- DirectAnswers: the direct answers, kind by kind, as the table has them.
 -- Rooms: room for settling, once a message is answered.
+-- FreePages: an ask to read of a free page, where nobody waits.
 -- Arising: a server arises by frames that fit, and what it says fits.
 -- Greeting: hello, by its incarnation, and every other message.
 -- PuttingOff: a commit that is put off until its pages are there.
@@ -20,6 +21,7 @@ pub mod Making
 pub mod Beginning
 pub mod DirectAnswers
 pub mod Rooms
+pub mod FreePages
 pub mod Arising
 pub mod Greeting
 pub mod PuttingOff

@@ -1,6 +1,6 @@
 -- Room for settling, once a message is answered.
-use Rattle.std.proofs.Common.{◌≡◌, ℕ, ◌+◌, ◌<◌, ◌≤◌, false, true≢false, List, [], ◌∷◌, ◌++◌, length, Result, Ok, Err, OnErr, zero, suc, refl, sym, ap, ◌∙◌, subst, arith}
-use Rattle.std.specs.Prelude.{IsOk}
+use Rattle.std.proofs.Common.{◌≡◌, ◌≢◌, ℕ, ◌+◌, ◌<◌, ◌≤◌, ◌==◌, true, false, true≢false, List, [], ◌∷◌, ◌++◌, length, zero, suc, refl, sym, ap, ◌∙◌, subst, arith}
+use Rattle.std.proofs.lemmas.Bool.Decides.{nat_tests}
 use Rattle.std.proofs.lemmas.List.{length-append}
 use Rattle.cb_asks.specs.Asks.{asks_below}
 use Rattle.cb_outbox.proofs.Saying.{after_append, copies_append, sent_append}
@@ -14,7 +14,7 @@ use Rattle.cb_protocol.specs.WaitsFor.{on_cycle}
 use Rattle.cb_protocol.specs.World.{messages_sent}
 use Rattle.cb_server.specs.Answering.{CanAnswer, CanSayTo, CanSettle, HasLimits, HasRoom, LacksNumber, Makes, answer_to, copies_for_body, messages_for_body, messages_in_all, read_asks_in_all, server_in}
 use Rattle.cb_server.specs.declared.engine.Engine.{Engine}
-use Rattle.cb_server.proofs.Counting.{Costs, admission, admission_costs, answer_costs, begins_as_many, begins_quietly, begins_with_fewer, begins_with_less, begins_with_no_copy, most, reads}
+use Rattle.cb_server.proofs.Counting.{Costs, admission, admission_costs, answer_costs, at_least_one, begins_as_many, begins_quietly, begins_with_fewer, begins_with_less, begins_with_no_copy, most, reads}
 
 -- steps that cost no more than there is room for leave room for settling
 settles_by : (old new : Engine) (f : Server → List ServerStep) (m k : ℕ) → HasRoom old (messages_in_all old + m) (read_asks_in_all old + k) → Makes old f new
@@ -89,7 +89,7 @@ can_answer old mid limits b messages copies of same is also room =
     (subst (λ (n : ℕ). HasRoom mid (messages_in_all mid + messages) (read_asks_in_all mid + n)) also room)
 
 -- where nobody waits, settling needs nothing
-none_at : (n m : ℕ) → n + m ≡ 0 → (n ≡ 0) × (m ≡ 0)
+pub none_at : (n m : ℕ) → n + m ≡ 0 → (n ≡ 0) × (m ≡ 0)
 none_at n m e = (omega (arith, e), omega (arith, e))
 
 no_messages : (clients : ℕ) (q : List WaitingAsk) → length q ≡ 0 → messages_for_queue clients q ≡ 0
@@ -112,11 +112,36 @@ no_reads_below s (suc page) e =
     let both = none_at (asks_below s page) (length (s.queue page)) e in
     let rest = no_reads_below s page both.0 in let here = no_reads (s.queue page) both.1 in omega (arith, rest, here)
 
+-- and where settling needs nothing, nobody waits
+asks_in : (clients : ℕ) (q : List WaitingAsk) → length q ≤ messages_for_queue clients q
+asks_in clients [] = omega arith
+asks_in clients (a ∷ q) = let one = at_least_one clients a.write_grant in let rest = asks_in clients q in omega (arith, one, rest)
+
+sums : (a b m n : ℕ) → a ≤ m → b ≤ n → a + b ≤ m + n
+sums a b m n k l = omega (arith, k, l)
+
+asks_cost : (s : Server) (end : ℕ) → asks_below s end ≤ messages_for_pages s end
+asks_cost s zero = omega arith
+asks_cost s (suc page) =
+    sums (asks_below s page) (length (s.queue page)) (messages_for_pages s page) (messages_for_queue s.clients (s.queue page)) (asks_cost s page) (asks_in s.clients (s.queue page))
+
+equal : (i n : ℕ) → i ≡ n → (i == n) ≡ true
+equal i n e = grind (arith, nat_tests)
+
+unequal : (i n : ℕ) → i ≢ n → (i == n) ≡ false
+unequal i n ne = grind (arith, nat_tests)
+
+pub nobody_by : (s : Server) (room answers : ℕ) → room ≡ messages_for_pages s s.pages + answers → (room == answers) ≡ (asks_below s s.pages == 0)
+nobody_by s room answers is = go (asks_below s s.pages) (asks_cost s s.pages) (no_messages_below s s.pages)
+  where
+    go : (asks : ℕ) → asks ≤ messages_for_pages s s.pages → (asks ≡ 0 → messages_for_pages s s.pages ≡ 0) → (room == answers) ≡ (asks == 0)
+    go zero cost none = let nothing = none refl in equal room answers (omega (arith, is, nothing)) ∙ sym (equal 0 0 refl)
+    go (suc asks) cost none = unequal room answers (λ same. omega (arith, is, cost, same)) ∙ sym (unequal (suc asks) 0 (λ same. omega (arith, same)))
+
 -- what can't be refused for nothing is refused for something
-pub refused_for : {X F : Type 0} (r : Result X F) (n : ℕ) → (n ≡ 0 → IsOk r) → OnErr r (0 < n)
-refused_for (Ok x) n f = tt
-refused_for (Err x) zero f = absurd (true≢false (sym (f refl)))
-refused_for (Err x) (suc n) f = omega arith
+pub some_asked : (n : ℕ) → (n ≡ 0 → false ≡ true) → 0 < n
+some_asked zero f = absurd (true≢false (sym (f refl)))
+some_asked (suc n) f = omega arith
 
 -- there is room for the answer alone
 pub can_say_to : (e : Engine) (b : Body) → CanAnswer e b → CanSayTo b e

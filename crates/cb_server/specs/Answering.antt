@@ -1,5 +1,5 @@
 -- What a server's engine does for a message, and the room that it has for it.
-use Rattle.std.specs.Prelude.{◌≡◌, ◌≤◌, ◌<◌, ◌+◌, ◌&&◌, ℕ, Bool, true, false, List}
+use Rattle.std.specs.Prelude.{◌≡◌, ◌≤◌, ◌<◌, ◌+◌, ◌==◌, ◌&&◌, ℕ, Bool, true, false, List}
 use Rattle.std.specs.Prelude.{[], ◌∷◌, ◌++◌}
 use Rattle.std.specs.Prelude.{length, ⊤}
 use Rattle.cb_asks.specs.Asks.{asks_below, room_at}
@@ -13,7 +13,7 @@ use Rattle.cb_links.specs.declared.sessions.Standing.{Standing}
 use Rattle.cb_outbox.specs.Messages.{short_of}
 use Rattle.cb_outbox.specs.Saying.{Says}
 use Rattle.cb_page.specs.Bounds.{Bounds}
-use Rattle.cb_protocol.specs.Basics.{Limits}
+use Rattle.cb_protocol.specs.Basics.{Limits, is_none}
 use Rattle.cb_protocol.specs.Messages as protocol
 use Rattle.cb_protocol.specs.Messages.{AbortNow}
 use Rattle.cb_protocol.specs.Numbers.{HasGrantsLeft, messages_for_pages}
@@ -22,7 +22,7 @@ use Rattle.cb_protocol.specs.Server.{DeadlockTest, Server, ServerStep, has_not_e
 use Rattle.cb_protocol.specs.ServerMessages.{and_then, begin_transaction, commit_allowed}
 use Rattle.cb_protocol.specs.ServerMessages.{direct_answer, may_proceed, named_txn}
 use Rattle.cb_protocol.specs.ServerMessages.{read_asks_below}
-use Rattle.cb_protocol.specs.Settling.{send_to, settle_pages}
+use Rattle.cb_protocol.specs.Settling.{no_other_holder, send_to, settle_pages}
 use Rattle.cb_protocol.specs.WaitsFor.{on_cycle}
 use Rattle.cb_protocol.specs.World.{messages_sent}
 use Rattle.cb_server_state.specs.States as states
@@ -72,6 +72,14 @@ read_asks_in_all engine = read_asks_below (server_in engine) (server_in engine).
 -- how many asks wait
 abbrev pub asks_in_all : Engine → ℕ
 asks_in_all engine = asks_below (server_in engine) (server_in engine).pages
+
+-- an ask of the client to read the page can be granted at once: nobody waits for any page, the
+-- client has no copy, and no other client is the page's write holder
+abbrev pub is_free : Engine → (client page : ℕ) → Bool
+is_free engine client page =
+    (asks_in_all engine == 0)
+    && is_none (((server_in engine).session client).row page)
+    && no_other_holder ((server_in engine).store.holder page) client
 
 -- how many messages settling may send for all asks that wait: two for an ask to read, and for an
 -- ask to write one to each client and one more to its own (this project's rule)

@@ -377,14 +377,15 @@ impl Engine {
     }
 
     /// Room for an answer of so many messages and copies of pages, and for settling once that is
-    /// given. None is asked for where there is no answer and nobody waits.
+    /// given. None is asked for where there is no answer and nobody waits. Whether nobody waits is
+    /// answered.
     pub(crate) fn reserve(
         &mut self,
         alloc: Global,
         limits: &Limits,
         messages: usize,
         copies: usize,
-    ) -> Result<(), AllocError>
+    ) -> Result<bool, AllocError>
         requires ready { IsReady self.old }
         requires of { HasLimits self.old limits.now }
         requires few { messages ≤ 33 }
@@ -395,13 +396,17 @@ impl Engine {
             (read_asks_in_all self.old + copies) }
         ensures most_room { self.new.outbox.room ≤ max self.old.outbox.room
             (length self.old.outbox.sent + (messages_in_all self.old + messages)) }
+        ensures nobody { IfOk result (λ nobody_waits.
+            nobody_waits ≡ (asks_in_all self.old == 0)) }
         ensures callbacks { self.new.callbacks ≡ self.old.callbacks }
         ensures needed { OnErr result (0 < messages + copies + asks_in_all self.old) }
         ensures left { IsLeft self.old self.new }
     {
+        let asked = messages;
         let messages = self.callbacks.messages_to_settle(limits) + messages;
         let copies = self.callbacks.read_asks() + copies;
-        self.outbox.reserve(alloc, messages, copies)
+        self.outbox.reserve(alloc, messages, copies)?;
+        Ok(messages == asked)
     }
 
     /// Every page with asks is settled.

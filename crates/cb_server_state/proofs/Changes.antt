@@ -1,5 +1,5 @@
 -- What is said with a change, to the protocol's server.
-use Rattle.std.proofs.Common.{◌≡◌, ℕ, Bool, true, ◌<◌, ◌-◌, List, [], ◌∷◌, ◌++◌, length, refl, sym, ap, ◌∙◌, arith}
+use Rattle.std.proofs.Common.{◌≡◌, ℕ, Bool, true, ◌<◌, ◌-◌, List, [], ◌∷◌, ◌++◌, length, refl, sym, ◌∙◌, arith}
 use Rattle.std.specs.Prelude.{slice_set}
 use Rattle.std.proofs.lemmas.Bool.Decides.{nat_tests}
 use Rattle.std.proofs.lemmas.List.{append-nil}
@@ -14,9 +14,10 @@ use Rattle.cb_links.specs.declared.sessions.Transaction.{Transaction}
 use Rattle.cb_links.specs.declared.sessions.Transaction.TheVariants.{NotBegun, Live, Ended}
 use Rattle.cb_outbox.specs.Saying.{OutboxState, Says}
 use Rattle.cb_protocol.specs.Messages.{AbortNow, Granted, MayWrite, Message}
-use Rattle.cb_protocol.specs.Server.{ChangeSession, Doom, LeaveQueue, RemoveAsk, Server, WaitingAsk, after_server_step, server_after}
-use Rattle.cb_protocol.specs.Session.{GrantRow, PermitWrite, SessionChange, has_live_txn}
-use Rattle.cb_protocol.specs.Settling.{doom_client, give_permission, grant_row}
+use Rattle.cb_protocol.specs.Server.{ChangeSession, Doom, LeaveQueue, RemoveAsk, WaitingAsk, server_after}
+use Rattle.cb_protocol.specs.Session.{PermitWrite, has_live_txn}
+use Rattle.cb_protocol.specs.Settling.{doom_client, give_permission}
+use Rattle.cb_server_state.specs.Granting.{grant_copy}
 use Rattle.cb_server_state.specs.States.{Does, HasClient, PartsAgree, begun_txn, client_session, server_of, transaction_of}
 use Rattle.cb_server_state.specs.declared.server_state.ServerState.{ServerState}
 use Rattle.cb_server_state.proofs.Alike.{same_server}
@@ -54,14 +55,6 @@ agree_marks v marks agree clients pages = record {
   marked_pages = pages ∙ agree.marked_pages;
 }
 
--- a change of a client's, and then the first ask of a page leaves
-pub changes_and_leaves : (before after : ServerState) (asks : AsksState) (client page : ℕ) (change : SessionChange)
-    → Does before (ChangeSession client change ∷ []) after → Leaves after.asks page asks
-    → server_of (record after { asks = asks })
-    ≡ after_server_step (after_server_step (server_of before) (ChangeSession client change)) (LeaveQueue page)
-changes_and_leaves before after asks client page change does leaves =
-    queued after asks _ leaves.has.queues ∙ ap (λ (s : Server). after_server_step s (LeaveQueue page)) does.becomes
-
 -- a permission given
 pub gives : (before after : ServerState) (client page grant : ℕ) (said : Message) (old new : OutboxState)
     → Does before (ChangeSession client (PermitWrite page grant) ∷ []) after
@@ -87,19 +80,18 @@ leaves_first before asks page a leaves = record {
   page_size = refl;
 }
 
--- a first ask granted
-pub grants : (before : ServerState) (d : DirectoryState) (asks : AsksState) (client page : ℕ) (said : Message) (old new : OutboxState)
-    → Grants before.directory client page d → Leaves before.asks page asks
+-- a copy granted
+pub grants : (before : ServerState) (d : DirectoryState) (client page : ℕ) (said : Message) (old new : OutboxState)
+    → Grants before.directory client page d
     → said ≡ record {
       client = client;
       incarnation = ((server_of before).session client).current;
       body = Granted page (server_of before).next_grant ((server_of before).store.version page) ((server_of before).store.bytes page);
     }
     → 0 < old.spare → new ≡ record old { sent = old.sent ++ said ∷ []; spare = old.spare - 1 }
-    → Says (server_of before) (λ server. grant_row server page client) (server_of (record before { directory = d; asks = asks })) old new
-grants before d asks client page said old new granted leaves is some put = rw (put, is) (record {
-  becomes = changes_and_leaves before (record before { directory = d }) asks client page (GrantRow page (server_of before).next_grant)
-      (grants_row before client page d granted) leaves;
+    → Says (server_of before) (λ server. grant_copy server page client) (server_of (record before { directory = d })) old new
+grants before d client page said old new granted is some put = rw (put, is) (record {
+  becomes = (grants_row before client page d granted).becomes;
   sends = refl;
   room = refl;
   spare = omega (arith, some);

@@ -3,3 +3,4 @@ pub mod Commits
 pub mod Questions
 pub mod Waits
 pub mod Asking
+pub mod Granting

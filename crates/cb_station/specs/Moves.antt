@@ -1,6 +1,7 @@
 -- What each call takes, and what it makes of the hand that it is lent.
-use Rattle.std.specs.Prelude.{◌≡◌, ◌==◌, ◌&&◌, ◌++◌, ℕ, Bool, true, false, not, nat_lt, List, []}
-use Rattle.std.specs.Prelude.{◌∷◌, if◌then◌else◌, length, map, Option, Some, None, zero, suc}
+use Rattle.std.specs.Prelude.{◌≡◌, ◌↔◌, ◌==◌, ◌&&◌, ◌++◌, ℕ, Bool, true, false, not, nat_lt}
+use Rattle.std.specs.Prelude.{IsTrue, List, [], ◌∷◌, if◌then◌else◌, length, map, Option, Some}
+use Rattle.std.specs.Prelude.{None, zero, suc}
 use Rattle.std.specs.List.{AllByRecursion}
 use Rattle.cb_hands.specs.OwnHand.{all_restamped, pages_written}
 use Rattle.cb_frame.specs.Grammar.{Fits, page_of}
@@ -22,6 +23,10 @@ use Rattle.cb_outbox.specs.Messages.{page_writes}
 use Rattle.cb_page.specs.Flags.{has}
 use Rattle.cb_protocol.specs.Basics.{is_none}
 use Rattle.cb_protocol.specs.Server.{Server, has_not_ended, has_row, is_write_holder}
+
+-- it says whether the hand is the one that is stored
+abbrev pub IsKnown : Bool → StationState → HandState → Type 0
+IsKnown known station hand = IsTrue known ↔ IsHeld station.hands hand
 
 -- the frame fits the station's limits, and is of the hand's client and incarnation; and the hand is
 -- the one that is stored

@@ -9,7 +9,7 @@ ghost use Rattle.cb_commit.specs.Stores.{IsOf};
 ghost use Rattle.cb_server_state.specs.Commits.{batch_of};
 ghost use Rattle.cb_hands.specs.Joined.{IsHeld};
 ghost use Rattle.cb_mailboxes.specs.Mail.{HasMail};
-ghost use Rattle.cb_station.specs.Moves.{IsOwn};
+ghost use Rattle.cb_station.specs.Moves.{IsKnown, IsOwn};
 ghost use Rattle.cb_station.specs.Stations.{IsStation, forgot, mailbox_of, remembered, server_of};
 ghost use Rattle.cb_station.specs.declared.office_fault.OfficeFault.TheVariants as office;
 ghost use Rattle.cb_station.specs.Telling.{IsTold, untold_in, with_untold};
@@ -207,6 +207,16 @@ impl Station {
         }
     }
 
+    /// Whether the hand is the one that is stored of its client: all its pages are compared. Each
+    /// call that is lent a hand compares it. Whoever makes several under one lock asks here once,
+    /// and makes those that are told the answer: `take_if_known`, `collect_if_known` and
+    /// `commit_if_known`. A known hand stays known, whatever these three answer.
+    pub fn knows(&self, hand: &Hand) -> bool
+        ensures { IsKnown result self.now hand.now }
+    {
+        self.hands.knows(hand)
+    }
+
     /// Whether a frame is to be sent to the client, so that `collect` returns one. Nothing is sent
     /// to a client that doesn't exist.
     pub fn has_frame_for(&self, client: ClientNo) -> bool
@@ -257,9 +267,9 @@ impl Station {
         number.get() <= self.dispatcher.server().state().commits.last_flushed()
     }
 
-    /// Forgets the commits up to a batch that was written and reported: they leave memory, and so do
-    /// their entries of the history. Its cost grows with their number alone, however many are left.
-    /// Nothing changes if they were forgotten before, or if no commit has a number as low.
+    /// Forgets the commits up to a batch that was written and reported: they leave memory, and so
+    /// do their entries of the history. Its cost grows with their number alone, however many are
+    /// left. Nothing changes if they were forgotten before, or if no commit has a number as low.
     pub fn forget(&mut self, written: Written)
         requires on_disk { written ≤ (server_of self.old).flushed }
         ensures { self.new ≡ forgot self.old written }
@@ -287,13 +297,14 @@ impl Station {
     }
 
     /// Whether the frame fits the limits and is of the hand's client and incarnation, and the hand
-    /// is the one that is stored.
-    fn is_own(&self, frame: &Frame, hand: &Hand) -> bool
+    /// is known.
+    fn is_own(&self, frame: &Frame, hand: &Hand, known: bool) -> bool
+        requires { IsKnown known self.now hand.now }
         ensures { IsTrue result ↔ IsOwn self.now frame.now hand.now }
     {
         frame.client == hand.client()
             && frame.incarnation == hand.incarnation()
             && frame.fits(self.dispatcher.server().limits())
-            && self.hands.knows(hand)
+            && known
     }
 }

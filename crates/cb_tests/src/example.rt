@@ -2,7 +2,7 @@
 ghost use Rattle.std.specs.Prelude.{◌≡◌, false};
 
 use crate::running::disks::{NONE, both};
-use crate::running::work::{Deed, Outcome, opening};
+use crate::running::work::{ShelfTask, WorkEnd, opening};
 use cb_office::{
     Chooser, ClientNo, CommitNo, Finished, FlushStop, Limits, Office, PageNo, Shelf, Station, TwoQ,
     Worker, WorkerFault, flush_loop,
@@ -117,6 +117,6 @@ pub(crate) fn puts_the_page_there<R: Wait + Clock, S: Alter>(
 /// Over a new database, on which `Shelf::open` makes the shelf.
 #[test]
 fn example(rt: HostRuntime) {
-    let works = [opening(Deed::Example), opening(Deed::Nothing)];
-    assert!(rt; both(&rt, rt.alloc(), 1, NONE, works).0 == Outcome::Well(true));
+    let works = [opening(ShelfTask::Example), opening(ShelfTask::Nothing)];
+    assert!(rt; both(&rt, rt.alloc(), 1, NONE, works).0 == WorkEnd::Well(true));
 }

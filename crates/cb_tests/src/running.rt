@@ -16,6 +16,7 @@ mod giving_up;
 mod hurried;
 mod late;
 mod lines;
+mod looking;
 mod numbers;
 mod other_limits;
 mod pacing;

@@ -10,6 +10,7 @@
 -- Numbering: a commit that was taken had a number left.
 -- Owning: what a station answers to a commit whose frame is handed over.
 -- Turning: what a turn leaves.
+-- Knowing: a hand that a station knows stays known, and one that it doesn't know stays unknown.
 -- Standing: what the client's words of its transaction mean.
 -- Staying: a worker stays the one that it is.
 -- Refusing: why a worker's calls are refused.
@@ -30,6 +31,7 @@ pub mod Saying
 pub mod Numbering
 pub mod Owning
 pub mod Turning
+pub mod Knowing
 pub mod Standing
 pub mod Staying
 pub mod Refusing

@@ -36,7 +36,7 @@ pub hands_in : (old new : WorkerState) (before after : StationState) (frame : Fr
 hands_in old new before after frame rest r e h = subst (λ (said : List Frame). TurnsBy said old.collected old before r new after) (sym e) h
 
 -- a frame that is taken leaves the hand
-taking_keeps : (old new : WorkerState) (frame : Frame) (r : Result Bool WorkerFault) → TakesCollected old frame r new → new.hand ≡ old.hand
+pub taking_keeps : (old new : WorkerState) (frame : Frame) (r : Result Bool WorkerFault) → TakesCollected old frame r new → new.hand ≡ old.hand
 taking_keeps old new frame (Ok turned) h = ap (λ (w : WorkerState). w.hand) h.1.rest
 taking_keeps old new frame (Err (worker.Client f)) h = ap (λ (w : WorkerState). w.hand) h.2
 taking_keeps old new frame (Err (worker.Office f)) h = ap (λ (w : WorkerState). w.hand) h.2

@@ -5,7 +5,7 @@ use Rattle.cb_frame.specs.Grammar.{IsFrameInSome}
 use Rattle.cb_frame.specs.Kinds.{code_of, kind_of_body}
 use Rattle.cb_frame.specs.declared.frame.Frame.{Frame}
 use Rattle.cb_handle.specs.Causes.{in_bytes, in_limits}
-use Rattle.cb_handle.specs.declared.refusal.Refusal.{Refusal}
+use Rattle.cb_handle.specs.declared.refusal.HandleRefusal.{HandleRefusal}
 use Rattle.cb_page.specs.Bounds.{Bounds}
 use Rattle.rughvadi.specs.declared.alone.FrameHead.{FrameHead}
 
@@ -24,5 +24,5 @@ pub record IsHeadOf (limits : Bounds) (bytes : List ℕ) (head : FrameHead) : Ty
   pub heads : Heads frame head.length head
 
 -- what is in the way of reading it: the limits, or the bytes
-abbrev pub head_cause : Bounds → List ℕ → Option Refusal
+abbrev pub head_cause : Bounds → List ℕ → Option HandleRefusal
 head_cause limits bytes = option_or (in_limits limits) (in_bytes limits bytes)

@@ -8,7 +8,7 @@ ghost use Rattle.rughvadi.specs.Limits.{bounds_of};
 use crate::answers::answer;
 use crate::limits::{StoreLimits, limits_of};
 use cb_frame::{Frame, decode};
-use cb_handle::{Refusal, fault_text};
+use cb_handle::{HandleRefusal, fault_text};
 use std::alloc::Global;
 
 /// What the header of a frame says, as C gets it.
@@ -43,7 +43,7 @@ fn read(
     limits: &StoreLimits,
     bytes: &[u8],
     head: &mut FrameHead,
-) -> Result<(), Refusal>
+) -> Result<(), HandleRefusal>
     ensures head { IfOk result (λ _. IsHeadOf (bounds_of limits.now) bytes.now head.new) }
     ensures why { Decides (head_cause (bounds_of limits.now) bytes.now) (reading_may bytes.now)
         result }
@@ -57,7 +57,7 @@ fn read(
             *head = head_of(&frame, used);
             Ok(())
         }
-        Err(fault) => Err(Refusal::Frame(fault)),
+        Err(fault) => Err(HandleRefusal::Frame(fault)),
     }
 }
 
@@ -103,7 +103,7 @@ pub extern "C" fn rughvadi_fault_text(fault: u32, room: &mut [u8], size: &mut us
     let text = fault_text(fault).as_bytes();
     *size = text.len();
     if text.len() > room.len() {
-        return Refusal::Room.number();
+        return HandleRefusal::Room.number();
     }
     put_front(text, room);
     0

@@ -11,7 +11,7 @@ ghost use Rattle.rughvadi.specs.Limits.{bounds_of};
 use crate::answers::answer;
 use crate::held::Handle;
 use crate::limits::{StoreLimits, boxed, limits_of};
-use cb_handle::{Object, Refusal};
+use cb_handle::{HandleRefusal, Object};
 use std::alloc::Global;
 
 fn made(
@@ -19,7 +19,7 @@ fn made(
     limits: &StoreLimits,
     client: u32,
     incarnation: u64,
-) -> Result<Box<Object>, Refusal>
+) -> Result<Box<Object>, HandleRefusal>
     ensures made { IfOk result (λ made.
         Clients client incarnation (bounds_of limits.now) made.value) }
     ensures why { Decides (client_cause (bounds_of limits.now) client incarnation) memory result }
@@ -48,7 +48,7 @@ pub extern "C" fn rughvadi_client_new(
     ensures full { h.old.live ≡ true → result ≡ 774 }
 {
     if h.live {
-        return Refusal::Held.number();
+        return HandleRefusal::Held.number();
     }
     match made(alloc, limits, client, incarnation) {
         Ok(b) => {
@@ -122,7 +122,7 @@ pub extern "C" fn rughvadi_client_hello(alloc: Global, h: &mut Handle) -> u32
     ensures empty { h.old.live ≡ false → result ≡ 769 }
 {
     let Some(mut b) = h.take(alloc) else {
-        return Refusal::OtherKind.number();
+        return HandleRefusal::OtherKind.number();
     };
     let done = b.hello();
     *h = Handle::of(b);
@@ -141,7 +141,7 @@ pub extern "C" fn rughvadi_client_begin(alloc: Global, h: &mut Handle, txn: &mut
     ensures empty { h.old.live ≡ false → result ≡ 769 }
 {
     let Some(mut b) = h.take(alloc) else {
-        return Refusal::OtherKind.number();
+        return HandleRefusal::OtherKind.number();
     };
     let done = b.begin(txn);
     *h = Handle::of(b);
@@ -169,7 +169,7 @@ pub extern "C" fn rughvadi_client_read(
     ensures kept { result ≢ 0 → room.new ≡ room.old }
 {
     let Some(mut b) = h.take(alloc) else {
-        return Refusal::OtherKind.number();
+        return HandleRefusal::OtherKind.number();
     };
     let done = b.read(page, room, here);
     *h = Handle::of(b);
@@ -194,7 +194,7 @@ pub extern "C" fn rughvadi_client_want(
     ensures empty { h.old.live ≡ false → result ≡ 769 }
 {
     let Some(mut b) = h.take(alloc) else {
-        return Refusal::OtherKind.number();
+        return HandleRefusal::OtherKind.number();
     };
     let done = b.want(page, may);
     *h = Handle::of(b);
@@ -218,7 +218,7 @@ pub extern "C" fn rughvadi_client_write(
     ensures empty { h.old.live ≡ false → result ≡ 769 }
 {
     let Some(mut b) = h.take(alloc) else {
-        return Refusal::OtherKind.number();
+        return HandleRefusal::OtherKind.number();
     };
     let done = b.write(page, bytes);
     *h = Handle::of(b);
@@ -237,7 +237,7 @@ pub extern "C" fn rughvadi_client_finish(alloc: Global, h: &mut Handle) -> u32
     ensures empty { h.old.live ≡ false → result ≡ 769 }
 {
     let Some(mut b) = h.take(alloc) else {
-        return Refusal::OtherKind.number();
+        return HandleRefusal::OtherKind.number();
     };
     let done = b.finish(alloc);
     *h = Handle::of(b);
@@ -255,7 +255,7 @@ pub extern "C" fn rughvadi_client_drop(alloc: Global, h: &mut Handle) -> u32
     ensures empty { h.old.live ≡ false → result ≡ 769 }
 {
     let Some(mut b) = h.take(alloc) else {
-        return Refusal::OtherKind.number();
+        return HandleRefusal::OtherKind.number();
     };
     let done = b.drop_txn(alloc);
     *h = Handle::of(b);
@@ -280,7 +280,7 @@ pub extern "C" fn rughvadi_client_peek(
     ensures kept { result ≢ 0 → room.new ≡ room.old }
 {
     let Some(b) = h.take(alloc) else {
-        return Refusal::OtherKind.number();
+        return HandleRefusal::OtherKind.number();
     };
     let done = b.peek(page, room);
     *h = Handle::of(b);

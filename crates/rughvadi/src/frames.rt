@@ -6,7 +6,7 @@ ghost use Rattle.cb_handle.specs.Objects.{FetchesOne, IsLeft, SaysAgain, Takes};
 
 use crate::answers::answer;
 use crate::held::Handle;
-use cb_handle::Refusal;
+use cb_handle::HandleRefusal;
 use std::alloc::Global;
 
 /// A server or a client takes the frame at the front of the bytes. Returns how many bytes it has.
@@ -27,7 +27,7 @@ pub extern "C" fn rughvadi_take(
     ensures empty { h.old.live ≡ false → result ≡ 769 }
 {
     let Some(mut b) = h.take(alloc) else {
-        return Refusal::OtherKind.number();
+        return HandleRefusal::OtherKind.number();
     };
     let done = b.take(alloc, bytes, used);
     *h = Handle::of(b);
@@ -57,7 +57,7 @@ pub extern "C" fn rughvadi_next(
     ensures kept { result ≢ 0 → room.new ≡ room.old }
 {
     let Some(mut b) = h.take(alloc) else {
-        return Refusal::OtherKind.number();
+        return HandleRefusal::OtherKind.number();
     };
     let done = b.fetch(alloc, room, size, client);
     *h = Handle::of(b);
@@ -76,7 +76,7 @@ pub extern "C" fn rughvadi_again(alloc: Global, h: &mut Handle) -> u32
     ensures empty { h.old.live ≡ false → result ≡ 769 }
 {
     let Some(mut b) = h.take(alloc) else {
-        return Refusal::OtherKind.number();
+        return HandleRefusal::OtherKind.number();
     };
     let done = b.again(alloc);
     *h = Handle::of(b);

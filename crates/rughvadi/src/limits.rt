@@ -3,7 +3,7 @@ ghost use Rattle.std.specs.Prelude.{◌≡◌, IfOk, None, false};
 ghost use Rattle.cb_handle.specs.Causes.{Decides, in_limits, memory, never};
 ghost use Rattle.rughvadi.specs.Limits.{bounds_of};
 
-use cb_handle::{Object, Refusal};
+use cb_handle::{HandleRefusal, Object};
 use cb_page::Limits;
 use std::alloc::Global;
 
@@ -22,13 +22,13 @@ pub struct StoreLimits {
 }
 
 /// The limits, if each is in its range.
-pub(crate) fn limits_of(l: &StoreLimits) -> Result<Limits, Refusal>
+pub(crate) fn limits_of(l: &StoreLimits) -> Result<Limits, HandleRefusal>
     ensures limits { IfOk result (λ limits. limits ≡ bounds_of l.now) }
     ensures why { Decides (in_limits (bounds_of l.now)) never result }
 {
     match Limits::new(l.clients, l.pages, l.page_size, l.slots, l.kin, l.kout) {
         Ok(limits) => Ok(kept_if(limits, l.keep_write != 0)),
-        Err(fault) => Err(Refusal::Limits(fault)),
+        Err(fault) => Err(HandleRefusal::Limits(fault)),
     }
 }
 
@@ -41,12 +41,12 @@ fn kept_if(limits: Limits, keep_write: bool) -> Limits
 }
 
 /// The object in a box.
-pub(crate) fn boxed(alloc: Global, object: Object) -> Result<Box<Object>, Refusal>
+pub(crate) fn boxed(alloc: Global, object: Object) -> Result<Box<Object>, HandleRefusal>
     ensures made { IfOk result (λ made. made.value ≡ object) }
     ensures why { Decides None memory result }
 {
     match Box::new(alloc, object) {
         Ok(boxed) => Ok(boxed),
-        Err(_) => Err(Refusal::Memory),
+        Err(_) => Err(HandleRefusal::Memory),
     }
 }

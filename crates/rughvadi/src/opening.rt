@@ -8,7 +8,7 @@ ghost use Rattle.rughvadi.specs.Limits.{bounds_of};
 use crate::answers::answer;
 use crate::held::Handle;
 use crate::limits::{StoreLimits, boxed, limits_of};
-use cb_handle::{Object, Refusal};
+use cb_handle::{HandleRefusal, Object};
 use std::alloc::Global;
 
 fn opening(
@@ -16,7 +16,7 @@ fn opening(
     limits: &StoreLimits,
     number: u64,
     floor: u64,
-) -> Result<Box<Object>, Refusal>
+) -> Result<Box<Object>, HandleRefusal>
     ensures made { IfOk result (λ made. Opens (bounds_of limits.now) number floor made.value) }
     ensures why { Decides (opening_cause (bounds_of limits.now) number floor) memory result }
 {
@@ -43,7 +43,7 @@ pub extern "C" fn rughvadi_open_begin(
     ensures full { h.old.live ≡ true → result ≡ 774 }
 {
     if h.live {
-        return Refusal::Held.number();
+        return HandleRefusal::Held.number();
     }
     match opening(alloc, limits, number, 0) {
         Ok(b) => {
@@ -74,7 +74,7 @@ pub extern "C" fn rughvadi_open_life(
     ensures full { h.old.live ≡ true → result ≡ 774 }
 {
     if h.live {
-        return Refusal::Held.number();
+        return HandleRefusal::Held.number();
     }
     match opening(alloc, limits, number, floor) {
         Ok(b) => {
@@ -103,7 +103,7 @@ pub extern "C" fn rughvadi_open_row(
     ensures empty { h.old.live ≡ false → result ≡ 769 }
 {
     let Some(mut b) = h.take(alloc) else {
-        return Refusal::OtherKind.number();
+        return HandleRefusal::OtherKind.number();
     };
     let done = b.row(alloc, version, bytes);
     *h = Handle::of(b);
@@ -124,7 +124,7 @@ pub extern "C" fn rughvadi_open_serve(alloc: Global, h: &mut Handle) -> u32
     ensures stays_empty { h.old.live ≡ false → h.new.live ≡ false }
 {
     let Some(mut b) = h.take(alloc) else {
-        return Refusal::OtherKind.number();
+        return HandleRefusal::OtherKind.number();
     };
     let done = b.serve(alloc);
     match done {
@@ -132,7 +132,7 @@ pub extern "C" fn rughvadi_open_serve(alloc: Global, h: &mut Handle) -> u32
             *h = Handle::of(b);
             0
         }
-        Err(Refusal::Memory) => Refusal::Memory.number(),
+        Err(HandleRefusal::Memory) => HandleRefusal::Memory.number(),
         Err(refusal) => {
             *h = Handle::of(b);
             refusal.number()

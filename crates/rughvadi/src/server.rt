@@ -12,10 +12,10 @@ ghost use Rattle.rughvadi.specs.Limits.{bounds_of};
 use crate::answers::answer;
 use crate::held::Handle;
 use crate::limits::{StoreLimits, boxed, limits_of};
-use cb_handle::{Object, Refusal};
+use cb_handle::{HandleRefusal, Object};
 use std::alloc::Global;
 
-fn zeros(alloc: Global, limits: &StoreLimits) -> Result<Box<Object>, Refusal>
+fn zeros(alloc: Global, limits: &StoreLimits) -> Result<Box<Object>, HandleRefusal>
     ensures made { IfOk result (λ made. Servers (bounds_of limits.now) made.value) }
     ensures why { Decides (server_cause (bounds_of limits.now)) memory result }
 {
@@ -36,7 +36,7 @@ pub extern "C" fn rughvadi_server_new(alloc: Global, limits: &StoreLimits, h: &m
     ensures full { h.old.live ≡ true → result ≡ 774 }
 {
     if h.live {
-        return Refusal::Held.number();
+        return HandleRefusal::Held.number();
     }
     match zeros(alloc, limits) {
         Ok(b) => {
@@ -81,7 +81,7 @@ pub extern "C" fn rughvadi_server_incarnation(
     ensures empty { h.old.live ≡ false → result ≡ 769 }
 {
     let Some(b) = h.take(alloc) else {
-        return Refusal::OtherKind.number();
+        return HandleRefusal::OtherKind.number();
     };
     let found = b.next_incarnation(client);
     *h = Handle::of(b);
@@ -113,7 +113,7 @@ pub extern "C" fn rughvadi_server_batch(
     ensures empty { h.old.live ≡ false → result ≡ 769 }
 {
     let Some(mut b) = h.take(alloc) else {
-        return Refusal::OtherKind.number();
+        return HandleRefusal::OtherKind.number();
     };
     let done = b.batch(alloc, number, pages);
     *h = Handle::of(b);
@@ -142,7 +142,7 @@ pub extern "C" fn rughvadi_server_page(
     ensures kept { result ≢ 0 → room.new ≡ room.old }
 {
     let Some(b) = h.take(alloc) else {
-        return Refusal::OtherKind.number();
+        return HandleRefusal::OtherKind.number();
     };
     let done = b.batch_page(at, room, page, version);
     *h = Handle::of(b);
@@ -161,7 +161,7 @@ pub extern "C" fn rughvadi_server_flushed(alloc: Global, h: &mut Handle, number:
     ensures empty { h.old.live ≡ false → result ≡ 769 }
 {
     let Some(mut b) = h.take(alloc) else {
-        return Refusal::OtherKind.number();
+        return HandleRefusal::OtherKind.number();
     };
     let done = b.flushed(alloc, number);
     *h = Handle::of(b);
@@ -179,7 +179,7 @@ pub extern "C" fn rughvadi_server_forget(alloc: Global, h: &mut Handle, number: 
     ensures empty { h.old.live ≡ false → result ≡ 769 }
 {
     let Some(mut b) = h.take(alloc) else {
-        return Refusal::OtherKind.number();
+        return HandleRefusal::OtherKind.number();
     };
     let done = b.forget(number);
     *h = Handle::of(b);
@@ -197,7 +197,7 @@ pub extern "C" fn rughvadi_server_leave(alloc: Global, h: &mut Handle, client: u
     ensures empty { h.old.live ≡ false → result ≡ 769 }
 {
     let Some(mut b) = h.take(alloc) else {
-        return Refusal::OtherKind.number();
+        return HandleRefusal::OtherKind.number();
     };
     let done = b.leave(alloc, client);
     *h = Handle::of(b);

@@ -1,7 +1,7 @@
-/* drops: a transaction that read held pages alone, and is dropped, sends nothing. Its Drop waits, in
- * place of one that waits already, and goes before whatever the link sends next: an ask, a commit,
- * or the answer to what came meanwhile. A transaction of which the server heard, or that has more to
- * say, sends its Drop at once. */
+/* drops: a transaction that read held pages alone, and is dropped, sends nothing. Its Drop waits,
+ * in place of one that waits already, and goes before whatever the link sends next: an ask, a
+ * commit, or the answer to what came meanwhile. A transaction of which the server heard, or that
+ * has more to say, sends its Drop at once. */
 #include "inside.h"
 
 enum { HELD = 1, UNREAD = 2, KINDS = 64 };

@@ -44,7 +44,8 @@ static uint32_t take_damaged(rughvadi_handle *h) {
 
 static uint32_t fetch(rughvadi_handle *h) {
   uint32_t client = 0;
-  uint32_t fault = rughvadi_next(h, said, draw() % 8 ? sizeof said : draw() % 20, &said_len, &client);
+  size_t room = draw() % 8 ? sizeof said : draw() % 20;
+  uint32_t fault = rughvadi_next(h, said, room, &said_len, &client);
   if (fault != RUGHVADI_DONE) {
     said_len = 0;
     return fault;

@@ -1,5 +1,5 @@
-//! A transaction that read held pages alone, and is dropped, sends nothing. Its Drop waits, in place
-//! of one that waits already, and goes before whatever the link sends next.
+//! A transaction that read held pages alone, and is dropped, sends nothing. Its Drop waits, in
+//! place of one that waits already, and goes before whatever the link sends next.
 mod inside;
 
 use inside::{Inside, Watch, Wire};

@@ -1,6 +1,6 @@
-/* jobs STORE COUNT [CLIENTS]: the same jobs by SQLite's library alone: each adds one to the counters
- * of two pages. A transaction has a job of each of so many clients, with two pages each: of one if
- * CLIENTS isn't said. */
+/* jobs STORE COUNT [CLIENTS]: the same jobs by SQLite's library alone: each adds one to the
+ * counters of two pages. A transaction has a job of each of so many clients, with two pages each:
+ * of one if CLIENTS isn't said. */
 #include "tables.h"
 
 enum { SIZE = 16 };

@@ -1,9 +1,9 @@
-/* pace_model CLIENTS SYNC EACH HOP THINK: how many commits go together at rughvadi-serve, by its own
- * code (pace.c) over a clock of its own. A batch takes SYNC microseconds, and EACH more for each
- * commit. A gateway hands its Dones on one after another, HOP apart, and the next commits likewise,
- * each of which a client makes in 15 microseconds and a drawn time whose mean is THINK; it reaches
- * the server 10 microseconds later. It prints how many commits there were a second, and how many in
- * a batch. Nothing in it rests on how busy the machine is. */
+/* pace_model CLIENTS SYNC EACH HOP THINK: how many commits go together at rughvadi-serve, by its
+ * own code (pace.c) over a clock of its own. A batch takes SYNC microseconds, and EACH more for
+ * each commit. A gateway hands its Dones on one after another, HOP apart, and the next commits
+ * likewise, each of which a client makes in 15 microseconds and a drawn time whose mean is THINK;
+ * it reaches the server 10 microseconds later. It prints how many commits there were a second, and
+ * how many in a batch. Nothing in it rests on how busy the machine is. */
 #define clock_now model_clock
 #include "pace.c"
 

@@ -1,8 +1,9 @@
 //! held_reads SIZE: times reads of what a process has at hand, in Rust.
 //!
-//! For pages of so many bytes: a link of the crate over a Unix socket, whose client holds the pages,
-//! at a server on a thread of its own. It has 512 pages, drawn evenly, and copies what it reads. It
-//! takes forty short turns; each begins with reads that aren't counted, and the fastest counts.
+//! For pages of so many bytes: a link of the crate over a Unix socket, whose client holds the
+//! pages, at a server on a thread of its own. It has 512 pages, drawn evenly, and copies what it
+//! reads. It takes forty short turns; each begins with reads that aren't counted, and the fastest
+//! counts.
 //!
 //! It prints nanoseconds of a read within a transaction, of a transaction of one, and of one of
 //! eight, which drop.

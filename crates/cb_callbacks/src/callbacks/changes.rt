@@ -1,16 +1,18 @@
 //! Changes at one page.
-ghost use Rattle.std.specs.Prelude.{◌≡◌, ◌≢◌, ◌∷◌, ◌<◌, [], ℕ, true, false, OnErr, OnOk};
+ghost use Rattle.std.specs.Prelude.{◌≡◌, ◌≢◌, ◌∷◌, ◌<◌, ◌≤◌, [], ℕ, true, false, OnErr, OnOk};
 ghost use Rattle.cb_asks.specs.Asks.{room_at};
 ghost use Rattle.cb_callbacks.specs.Following.{FollowsPage};
 ghost use Rattle.cb_outbox.specs.Saying.{HasRoomFor, Says};
+ghost use Rattle.cb_protocol.specs.Basics.{is_none, max_number};
 ghost use Rattle.cb_protocol.specs.Server.{ChangeSession, EnterQueue, MarkInUse, UnmarkInUse};
 ghost use Rattle.cb_protocol.specs.Server.{after_server_step};
 ghost use Rattle.cb_protocol.specs.ServerMessages.{enter_queue, has_waiting_ask, new_ask};
 ghost use Rattle.cb_protocol.specs.Session.{EndPermission, RemoveRow, has_live_txn};
 ghost use Rattle.cb_protocol.specs.Settling.{give_permission, no_other_holder, sole_row};
 ghost use Rattle.cb_protocol.specs.WaitsFor.{on_cycle};
-ghost use Rattle.cb_server_state.specs.States.{Does, HasClient, HasPage, PartsAgree, Stays};
-ghost use Rattle.cb_server_state.specs.States.{server_of};
+ghost use Rattle.cb_server_state.specs.Granting.{grant_copy};
+ghost use Rattle.cb_server_state.specs.States.{Does, HasClient, HasPage, IsAsLarge, PartsAgree};
+ghost use Rattle.cb_server_state.specs.States.{Stays, server_of};
 ghost use Rattle.cb_server_state.specs.Waits.{HasBegun, IsGreeted};
 
 use crate::Callbacks;
@@ -80,6 +82,25 @@ impl Callbacks {
     {
         self.state.give_permission(client, page, grant, outbox);
         follow_page(&mut self.view, &self.state, page);
+    }
+
+    /// The client gets a copy of a page that nobody waits for. Its ask enters no queue.
+    pub fn grant(&mut self, client: ClientNo, page: PageNo, outbox: &mut Outbox)
+        requires client { HasClient self.old.state client }
+        requires page { HasPage self.old.state page }
+        requires greeted { IsGreeted (server_of self.old.state) client }
+        requires nobody { (server_of self.old.state).queue page ≡ [] }
+        requires alone { no_other_holder ((server_of self.old.state).store.holder page) client
+            ≡ true }
+        requires no_row { is_none (((server_of self.old.state).session client).row page) ≡ true }
+        requires left { (server_of self.old.state).next_grant ≤ max_number }
+        requires size { IsAsLarge outbox.old self.old.state }
+        requires room { HasRoomFor (grant_copy (server_of self.old.state) page client) outbox.old }
+        ensures says { Says (server_of self.old.state) (λ server. grant_copy server page client)
+            (server_of self.new.state) outbox.old outbox.new }
+        ensures stays { Stays self.old.state self.new.state }
+    {
+        self.state.grant(client, page, outbox);
     }
 
     /// Makes room for one more ask at the page. Whether it is refused or not, nothing else changes.

@@ -13,8 +13,8 @@ use cb_page::{ClientNo, GrantNo, MAX_NUMBER, PageNo, TxnNo};
 
 impl Callbacks {
     /// Whether an ask to read would enter a queue, although no grant number is left for it beyond
-    /// those for the asks that wait. Its transaction stands so, and the client has a row of its page
-    /// or none.
+    /// those for the asks that wait. Its transaction stands so, and the client has a row of its
+    /// page or none.
     pub fn lacks_grant(&self, client: ClientNo, standing: Standing, has_row: bool) -> bool
         requires client { HasClient self.now.state client }
         ensures { (txn page : ℕ) → IsStanding (server_of self.now.state) client txn standing

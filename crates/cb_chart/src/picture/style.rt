@@ -58,20 +58,37 @@ pub(crate) const FAMILIES: [&str; 7] = ["hello", "ask", "grant", "call", "back",
 
 /// What colours and shapes mean.
 pub(crate) const LEGEND: &str = "\
-<path class=\"arrow hello\" d=\"M14 44H36\" marker-end=\"url(#hello)\"/><text x=\"41\" y=\"48\">Hello Welcome</text>
-<path class=\"arrow ask\" d=\"M134 44H156\" marker-end=\"url(#ask)\"/><text x=\"161\" y=\"48\">Ask</text>
-<path class=\"arrow grant\" d=\"M194 44H216\" marker-end=\"url(#grant)\"/><text x=\"221\" y=\"48\">Granted MayWrite</text>
-<path class=\"arrow call\" d=\"M332 44H354\" marker-end=\"url(#call)\"/><text x=\"359\" y=\"48\">Callback Downgrade</text>
-<path class=\"arrow back\" d=\"M482 44H504\" marker-end=\"url(#back)\"/><text x=\"509\" y=\"48\">GiveBack InUse Downgraded</text>
-<path class=\"arrow commit\" d=\"M676 44H698\" marker-end=\"url(#commit)\"/><text x=\"703\" y=\"48\">Commit Done</text>
-<path class=\"arrow abort\" d=\"M778 44H800\" marker-end=\"url(#abort)\"/><text x=\"805\" y=\"48\">Drop AbortNow</text>
-<path class=\"arrow ask again\" d=\"M14 66H36\" marker-end=\"url(#ask)\"/><text x=\"41\" y=\"70\">taken again</text>
-<path class=\"arrow stub ask\" d=\"M126 66H146\"/><path class=\"cross ask\" d=\"M143 63l6 6m0 -6l-6 6\"/><text x=\"155\" y=\"70\">never taken</text>
-<rect class=\"reads\" x=\"240\" y=\"60\" width=\"12\" height=\"12\"/><text x=\"257\" y=\"70\">can read</text>
-<rect class=\"writes\" x=\"322\" y=\"60\" width=\"12\" height=\"12\"/><text x=\"339\" y=\"70\">may write</text>
-<circle class=\"hollow\" cx=\"414\" cy=\"66\" r=\"4\"/><text x=\"423\" y=\"70\">read</text>
-<rect class=\"dot\" x=\"462\" y=\"62\" width=\"8\" height=\"8\"/><text x=\"475\" y=\"70\">write</text>
-<path class=\"dot\" d=\"M526 60l6 6l-6 6l-6 -6z\"/><text x=\"537\" y=\"70\">commit</text>
-<path class=\"cross abort\" d=\"M591 61l10 10m0 -10l-10 10\"/><text x=\"607\" y=\"70\">drop, abort</text>
-<circle class=\"hollow\" cx=\"694\" cy=\"66\" r=\"2.5\"/><text x=\"702\" y=\"70\">refused</text>
+<path class=\"arrow hello\" d=\"M14 44H36\" marker-end=\"url(#hello)\"/>\
+<text x=\"41\" y=\"48\">Hello Welcome</text>
+<path class=\"arrow ask\" d=\"M134 44H156\" marker-end=\"url(#ask)\"/>\
+<text x=\"161\" y=\"48\">Ask</text>
+<path class=\"arrow grant\" d=\"M194 44H216\" marker-end=\"url(#grant)\"/>\
+<text x=\"221\" y=\"48\">Granted MayWrite</text>
+<path class=\"arrow call\" d=\"M332 44H354\" marker-end=\"url(#call)\"/>\
+<text x=\"359\" y=\"48\">Callback Downgrade</text>
+<path class=\"arrow back\" d=\"M482 44H504\" marker-end=\"url(#back)\"/>\
+<text x=\"509\" y=\"48\">GiveBack InUse Downgraded</text>
+<path class=\"arrow commit\" d=\"M676 44H698\" marker-end=\"url(#commit)\"/>\
+<text x=\"703\" y=\"48\">Commit Done</text>
+<path class=\"arrow abort\" d=\"M778 44H800\" marker-end=\"url(#abort)\"/>\
+<text x=\"805\" y=\"48\">Drop AbortNow</text>
+<path class=\"arrow ask again\" d=\"M14 66H36\" marker-end=\"url(#ask)\"/>\
+<text x=\"41\" y=\"70\">taken again</text>
+<path class=\"arrow stub ask\" d=\"M126 66H146\"/>\
+<path class=\"cross ask\" d=\"M143 63l6 6m0 -6l-6 6\"/>\
+<text x=\"155\" y=\"70\">never taken</text>
+<rect class=\"reads\" x=\"240\" y=\"60\" width=\"12\" height=\"12\"/>\
+<text x=\"257\" y=\"70\">can read</text>
+<rect class=\"writes\" x=\"322\" y=\"60\" width=\"12\" height=\"12\"/>\
+<text x=\"339\" y=\"70\">may write</text>
+<circle class=\"hollow\" cx=\"414\" cy=\"66\" r=\"4\"/>\
+<text x=\"423\" y=\"70\">read</text>
+<rect class=\"dot\" x=\"462\" y=\"62\" width=\"8\" height=\"8\"/>\
+<text x=\"475\" y=\"70\">write</text>
+<path class=\"dot\" d=\"M526 60l6 6l-6 6l-6 -6z\"/>\
+<text x=\"537\" y=\"70\">commit</text>
+<path class=\"cross abort\" d=\"M591 61l10 10m0 -10l-10 10\"/>\
+<text x=\"607\" y=\"70\">drop, abort</text>
+<circle class=\"hollow\" cx=\"694\" cy=\"66\" r=\"2.5\"/>\
+<text x=\"702\" y=\"70\">refused</text>
 ";

@@ -1,6 +1,6 @@
 //! Commits that are written by a shelf: at once, or after refusals.
 
-use crate::shelf::disks::{Held, held_by};
+use crate::shelf::disks::{TwoPages, held_by};
 use cb_commit::{Batch, Commits, Store};
 use cb_frame::{Body, Frame, ShortBody, ShortFrame, Write, Writes};
 use cb_page::{ClientNo, CommitNo, GrantNo, Incarnation, Limits, PageNo, TxnNo};
@@ -23,10 +23,10 @@ pub(crate) enum Writing {
 }
 
 /// The store of zeros, before the first commit.
-pub(crate) static ZEROS: Held = (0, [(0, 0), (0, 0)]);
+pub(crate) static ZEROS: TwoPages = (0, [(0, 0), (0, 0)]);
 
 /// With one commit of sevens.
-pub(crate) static SEVENS: Held = (1, [(1, 7), (0, 0)]);
+pub(crate) static SEVENS: TwoPages = (1, [(1, 7), (0, 0)]);
 
 /// Whether it is written so.
 pub(crate) fn writes<S: Alter>(
@@ -89,7 +89,7 @@ fn writes_once<S: Alter>(
 }
 
 /// Whether the tables hold this, read without a limit on steps.
-fn holds<S: Alter>(alloc: Global, limits: &Limits, shelf: &mut Shelf<S>, held: Held) -> bool {
+fn holds<S: Alter>(alloc: Global, limits: &Limits, shelf: &mut Shelf<S>, held: TwoPages) -> bool {
     shelf.limit_steps(0);
     match shelf.load(alloc) {
         Ok(store) => held_by(limits, &store) == Some(held),

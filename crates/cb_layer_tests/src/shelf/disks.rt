@@ -11,25 +11,25 @@ use std::alloc::Global;
 /// A database is opened, texts run over it, and a shelf of these limits is opened; this is done to
 /// it then.
 #[derive(Clone, Copy)]
-pub(crate) struct Session<'a> {
+pub(crate) struct ShelfSession<'a> {
     pub(crate) limits: &'a Limits,
     pub(crate) texts: [&'a str; 2],
-    pub(crate) deed: Deed,
+    pub(crate) task: SessionTask,
 }
 
 /// After this text a shelf is read.
-pub(crate) fn reading<'a>(limits: &'a Limits, text: &'a str) -> Session<'a> {
-    let (texts, deed) = ([text, ""], Deed::Load);
-    Session {
+pub(crate) fn reading<'a>(limits: &'a Limits, text: &'a str) -> ShelfSession<'a> {
+    let (texts, task) = ([text, ""], SessionTask::Load);
+    ShelfSession {
         limits,
         texts,
-        deed,
+        task,
     }
 }
 
 /// What is done to a shelf.
 #[derive(Clone, Copy)]
-pub(crate) enum Deed {
+pub(crate) enum SessionTask {
     /// It is read.
     Load,
     /// A commit is written.
@@ -40,7 +40,7 @@ pub(crate) enum Deed {
 
 /// How far a session came.
 #[derive(Clone, Copy, PartialEq, Eq)]
-pub(crate) enum Outcome {
+pub(crate) enum SessionEnd {
     /// No database was opened.
     Nothing,
     /// The database was opened, and a text didn't run.
@@ -50,7 +50,7 @@ pub(crate) enum Outcome {
     /// It was opened, and not read.
     Unread(ShelfFault),
     /// It holds this; nothing where that isn't one byte a page.
-    Holds(Option<Held>),
+    Holds(Option<TwoPages>),
     /// Whether what was to be written was.
     Written(bool),
     /// No life began.
@@ -60,7 +60,7 @@ pub(crate) enum Outcome {
 }
 
 /// A store of two pages: its number, and the version of each page and the byte that fills it.
-pub(crate) type Held = (u64, [(u64, u8); 2]);
+pub(crate) type TwoPages = (u64, [(u64, u8); 2]);
 
 /// After how many calls the disk of the log stops, and that of the database's file.
 pub(crate) type Calls = (u64, u64);
@@ -111,31 +111,31 @@ fn store_of<S: Alter + Drop>(conn: Connection<S>) -> S {
     conn.into_store()
 }
 
-/// What comes of a session, and the files.
+/// How far a session comes, and the files.
 fn session_over(
     alloc: Global,
     files: Files<Fuse<Memory>>,
-    session: Session<'_>,
-) -> (Outcome, Files<Fuse<Memory>>) {
+    session: ShelfSession<'_>,
+) -> (SessionEnd, Files<Fuse<Memory>>) {
     match connect(alloc, files) {
         Ok(conn) => {
-            let (outcome, conn) = over(alloc, conn, session);
-            (outcome, store_of(conn).close())
+            let (end, conn) = over(alloc, conn, session);
+            (end, store_of(conn).close())
         }
-        Err(files) => (Outcome::Nothing, files),
+        Err(files) => (SessionEnd::Nothing, files),
     }
 }
 
-/// What comes of a session, and the files after a crash.
+/// How far a session comes, and the files after a crash.
 pub(crate) fn run_session(
     alloc: Global,
     files: Files<Fuse<Memory>>,
-    session: Session<'_>,
-) -> (Outcome, Files<Fuse<Memory>>) {
-    let (outcome, mut files) = session_over(alloc, files, session);
+    session: ShelfSession<'_>,
+) -> (SessionEnd, Files<Fuse<Memory>>) {
+    let (end, mut files) = session_over(alloc, files, session);
     files.log.crash();
     files.db.crash();
-    (outcome, files)
+    (end, files)
 }
 
 /// Whether the texts run.
@@ -147,39 +147,44 @@ fn run_texts<S: Alter>(conn: &mut Connection<S>, texts: [&str; 2]) -> bool {
 fn over<S: Alter>(
     alloc: Global,
     mut conn: Connection<S>,
-    session: Session<'_>,
-) -> (Outcome, Connection<S>) {
+    session: ShelfSession<'_>,
+) -> (SessionEnd, Connection<S>) {
     if !run_texts(&mut conn, session.texts) {
-        return (Outcome::Database, conn);
+        return (SessionEnd::Database, conn);
     }
     match Shelf::open(alloc, conn, session.limits) {
         Ok(mut shelf) => {
-            let outcome = done(alloc, session.limits, &mut shelf, session.deed);
-            (outcome, shelf.close())
+            let end = done(alloc, session.limits, &mut shelf, session.task);
+            (end, shelf.close())
         }
-        Err((fault, conn)) => (Outcome::Refused(fault), conn),
+        Err((fault, conn)) => (SessionEnd::Refused(fault), conn),
     }
 }
 
-fn done<S: Alter>(alloc: Global, limits: &Limits, shelf: &mut Shelf<S>, deed: Deed) -> Outcome {
-    match deed {
-        Deed::Load => match shelf.load(alloc) {
-            Ok(store) => Outcome::Holds(held_by(limits, &store)),
-            Err(fault) => Outcome::Unread(fault),
+fn done<S: Alter>(
+    alloc: Global,
+    limits: &Limits,
+    shelf: &mut Shelf<S>,
+    task: SessionTask,
+) -> SessionEnd {
+    match task {
+        SessionTask::Load => match shelf.load(alloc) {
+            Ok(store) => SessionEnd::Holds(held_by(limits, &store)),
+            Err(fault) => SessionEnd::Unread(fault),
         },
-        Deed::Write(writing) => Outcome::Written(writes(alloc, limits, shelf, writing)),
-        Deed::Live(incarnation) => lived(shelf, incarnation),
+        SessionTask::Write(writing) => SessionEnd::Written(writes(alloc, limits, shelf, writing)),
+        SessionTask::Live(incarnation) => lived(shelf, incarnation),
     }
 }
 
 /// A life begins, and gets room for a Hello.
-fn lived<S: Alter>(shelf: &mut Shelf<S>, incarnation: u64) -> Outcome {
+fn lived<S: Alter>(shelf: &mut Shelf<S>, incarnation: u64) -> SessionEnd {
     match shelf.begin_life() {
         Ok(mut life) => {
             let floor = life.floor().get();
-            Outcome::Lived(floor, gets_room(shelf, &mut life, incarnation))
+            SessionEnd::Lived(floor, gets_room(shelf, &mut life, incarnation))
         }
-        Err(fault) => Outcome::Unbegun(fault),
+        Err(fault) => SessionEnd::Unbegun(fault),
     }
 }
 
@@ -200,7 +205,7 @@ fn gets_room<S: Alter>(shelf: &mut Shelf<S>, life: &mut Life, incarnation: u64) 
 }
 
 /// What a store of two pages holds, each of which one byte fills.
-pub(crate) fn held_by(limits: &Limits, store: &Store) -> Option<Held> {
+pub(crate) fn held_by(limits: &Limits, store: &Store) -> Option<TwoPages> {
     if limits.pages() != 2 {
         return None;
     }

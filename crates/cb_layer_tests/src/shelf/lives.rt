@@ -1,7 +1,9 @@
 //! Lives of a server over a shelf: with which floors they begin, and what stops of the disks leave.
 
-use crate::shelf::disks::{Calls, Deed, Outcome, Session, calls_of, files_that_stop, run_session};
-use crate::shelf::reopened::outcomes;
+use crate::shelf::disks::{
+    Calls, SessionEnd, SessionTask, ShelfSession, calls_of, files_that_stop, run_session,
+};
+use crate::shelf::reopened::ends_of;
 use crate::shelf::shapes::{NEW, OLD};
 use cb_page::Limits;
 use cb_shelf::ShelfFault;
@@ -18,12 +20,12 @@ const UNKEPT: u64 = 1 << 61;
 const HELLO: u64 = 1 << 22;
 
 /// After this text a life begins, and gets room for this incarnation if it has none.
-fn living<'a>(limits: &'a Limits, text: &'a str, incarnation: u64) -> Session<'a> {
-    let (texts, deed) = ([text, ""], Deed::Live(incarnation));
-    Session {
+fn living<'a>(limits: &'a Limits, text: &'a str, incarnation: u64) -> ShelfSession<'a> {
+    let (texts, task) = ([text, ""], SessionTask::Live(incarnation));
+    ShelfSession {
         limits,
         texts,
-        deed,
+        task,
     }
 }
 
@@ -38,11 +40,11 @@ fn have_floors(alloc: Global, limits: &Limits, text: &str, floor: u64) -> bool {
         living(limits, "", 0),
     ];
     let lived = [
-        Outcome::Lived(floor, false),
-        Outcome::Lived(second, true),
-        Outcome::Lived(hello.wrapping_add(RANGE), false),
+        SessionEnd::Lived(floor, false),
+        SessionEnd::Lived(second, true),
+        SessionEnd::Lived(hello.wrapping_add(RANGE), false),
     ];
-    outcomes(alloc, sessions) == lived
+    ends_of(alloc, sessions) == lived
 }
 
 /// New tables begin with 1; those that a shelf copied, and those that kept no lives, with 2^61.
@@ -56,14 +58,14 @@ fn first_floors(rt: HostRuntime) -> Result<(), Fail> {
 }
 
 /// What comes of a life over new tables whose row this text sets.
-fn after_row(alloc: Global, limits: &Limits, text: &str) -> Outcome {
+fn after_row(alloc: Global, limits: &Limits, text: &str) -> SessionEnd {
     let sessions = [
         living(limits, "", 0),
         living(limits, text, 0),
         living(limits, "", 0),
     ];
-    let [_, outcome, _] = outcomes(alloc, sessions);
-    outcome
+    let [_, end, _] = ends_of(alloc, sessions);
+    end
 }
 
 /// The last row from which a life is left.
@@ -80,11 +82,11 @@ static ENDED: [&'static str; 4] = [
 #[test]
 fn rows_from_which_no_life_is_left(rt: HostRuntime) -> Result<(), Fail> {
     let limits = Limits::new(1, 2, 16, 2, 1, 1)?;
-    let last = Outcome::Lived(4611686018426339327, false);
+    let last = SessionEnd::Lived(4611686018426339327, false);
     assert!(rt; after_row(rt.alloc(), &limits, LAST) == last);
     for text in ENDED {
-        let outcome = after_row(rt.alloc(), &limits, text);
-        assert!(rt; outcome == Outcome::Unbegun(ShelfFault::Shape));
+        let end = after_row(rt.alloc(), &limits, text);
+        assert!(rt; end == SessionEnd::Unbegun(ShelfFault::Shape));
     }
     Ok(())
 }
@@ -92,15 +94,15 @@ fn rows_from_which_no_life_is_left(rt: HostRuntime) -> Result<(), Fail> {
 /// Whether the next life may begin with this floor, where a disk stopped amid a session in which a
 /// life was to begin with `first` and to get room for a Hello: the row is the one before, or the
 /// one that was being written.
-fn may_begin_with(floor: u64, reached: Outcome, first: u64, hello: u64) -> bool {
+fn may_begin_with(floor: u64, reached: SessionEnd, first: u64, hello: u64) -> bool {
     let begun = first.wrapping_add(RANGE);
     let raised = hello.wrapping_add(RANGE);
     match reached {
-        Outcome::Nothing | Outcome::Database => floor == 1 || floor == first,
-        Outcome::Refused(ShelfFault::Store) => floor == first,
-        Outcome::Unbegun(ShelfFault::Store) => floor == first || floor == begun,
-        Outcome::Lived(handed, false) => handed == first && (floor == begun || floor == raised),
-        Outcome::Lived(handed, true) => handed == first && floor == raised,
+        SessionEnd::Nothing | SessionEnd::Database => floor == 1 || floor == first,
+        SessionEnd::Refused(ShelfFault::Store) => floor == first,
+        SessionEnd::Unbegun(ShelfFault::Store) => floor == first || floor == begun,
+        SessionEnd::Lived(handed, false) => handed == first && (floor == begun || floor == raised),
+        SessionEnd::Lived(handed, true) => handed == first && floor == raised,
         _ => false,
     }
 }
@@ -114,25 +116,30 @@ struct Stops {
 
 impl Stops {
     /// One more, where it came so far.
-    fn count(&mut self, reached: Outcome) {
+    fn count(&mut self, reached: SessionEnd) {
         match reached {
-            Outcome::Unbegun(_) => self.beginning = self.beginning.wrapping_add(1),
-            Outcome::Lived(_, false) => self.raising = self.raising.wrapping_add(1),
+            SessionEnd::Unbegun(_) => self.beginning = self.beginning.wrapping_add(1),
+            SessionEnd::Lived(_, false) => self.raising = self.raising.wrapping_add(1),
             _ => {}
         }
     }
 }
 
 /// The floor of a session, if a life began.
-fn floor_of(outcome: Outcome) -> Option<u64> {
-    match outcome {
-        Outcome::Lived(floor, _) => Some(floor),
+fn floor_of(end: SessionEnd) -> Option<u64> {
+    match end {
+        SessionEnd::Lived(floor, _) => Some(floor),
         _ => None,
     }
 }
 
 /// What a session came to whose disks stop so, if the next life begins as it may.
-fn stopped(alloc: Global, calls: Calls, session: Session<'_>, first: u64) -> Option<Outcome> {
+fn stopped(
+    alloc: Global,
+    calls: Calls,
+    session: ShelfSession<'_>,
+    first: u64,
+) -> Option<SessionEnd> {
     let hello = first.wrapping_add(HELLO);
     let files = files_that_stop(alloc, calls);
     let (reached, files) = run_session(alloc, files, session);
@@ -149,7 +156,7 @@ fn survives_stops(alloc: Global, limits: &Limits, text: &str, first: u64, is_log
     for count in 0..1_000 {
         let calls = calls_of(is_log, count);
         match stopped(alloc, calls, session, first) {
-            Some(Outcome::Lived(_, true)) => return stops.beginning > 0 && stops.raising > 0,
+            Some(SessionEnd::Lived(_, true)) => return stops.beginning > 0 && stops.raising > 0,
             Some(reached) => stops.count(reached),
             None => return false,
         }

@@ -1,7 +1,9 @@
 //! What a shelf holds that is opened again.
 
 use crate::shelf::batches::{SEVENS, Writing};
-use crate::shelf::disks::{Deed, Held, Outcome, Session, files_that_stop, reading, run_session};
+use crate::shelf::disks::{
+    SessionEnd, SessionTask, ShelfSession, TwoPages, files_that_stop, reading, run_session,
+};
 use crate::shelf::shapes::{OLD, OLD_STORE};
 use cb_page::Limits;
 use cb_shelf::ShelfFault;
@@ -9,7 +11,7 @@ use std::alloc::Global;
 use std::test::Fail;
 
 /// What comes of the sessions, one after another over the same files, with a crash after each.
-pub(crate) fn outcomes(alloc: Global, sessions: [Session<'_>; 3]) -> [Outcome; 3] {
+pub(crate) fn ends_of(alloc: Global, sessions: [ShelfSession<'_>; 3]) -> [SessionEnd; 3] {
     let files = files_that_stop(alloc, (u64::MAX, u64::MAX));
     let (first, files) = run_session(alloc, files, sessions[0]);
     let (second, files) = run_session(alloc, files, sessions[1]);
@@ -19,15 +21,15 @@ pub(crate) fn outcomes(alloc: Global, sessions: [Session<'_>; 3]) -> [Outcome; 3
 
 /// Whether a commit is written so over zeros, and this is there when the tables are opened again,
 /// twice.
-fn is_written(alloc: Global, limits: &Limits, writing: Writing, held: Held) -> bool {
-    let first = Session {
+fn is_written(alloc: Global, limits: &Limits, writing: Writing, held: TwoPages) -> bool {
+    let first = ShelfSession {
         limits,
         texts: ["", ""],
-        deed: Deed::Write(writing),
+        task: SessionTask::Write(writing),
     };
     let read = reading(limits, "");
-    let there = Outcome::Holds(Some(held));
-    outcomes(alloc, [first, read, read]) == [Outcome::Written(true), there, there]
+    let there = SessionEnd::Holds(Some(held));
+    ends_of(alloc, [first, read, read]) == [SessionEnd::Written(true), there, there]
 }
 
 /// A batch that the table refuses isn't reported, leaves the table, and is written again: that of a
@@ -54,16 +56,16 @@ fn pages_of_many_parts(rt: HostRuntime) -> Result<(), Fail> {
 /// Whether older tables of 16 bytes a page are refused by limits of 32, twice, and hold what they
 /// did.
 fn keep_their_size(alloc: Global, small: &Limits, large: &Limits) -> bool {
-    let refused = Outcome::Refused(ShelfFault::Shape);
+    let refused = SessionEnd::Refused(ShelfFault::Shape);
     let sessions = [reading(large, OLD), reading(large, ""), reading(small, "")];
-    outcomes(alloc, sessions) == [refused, refused, Outcome::Holds(Some(OLD_STORE))]
+    ends_of(alloc, sessions) == [refused, refused, SessionEnd::Holds(Some(OLD_STORE))]
 }
 
 /// Whether their copy is, and holds the same before and after.
 fn copy_keeps_its_size(alloc: Global, small: &Limits, large: &Limits) -> bool {
-    let held = Outcome::Holds(Some(OLD_STORE));
+    let held = SessionEnd::Holds(Some(OLD_STORE));
     let sessions = [reading(small, OLD), reading(large, ""), reading(small, "")];
-    outcomes(alloc, sessions) == [held, Outcome::Refused(ShelfFault::Shape), held]
+    ends_of(alloc, sessions) == [held, SessionEnd::Refused(ShelfFault::Shape), held]
 }
 
 #[test]

@@ -4,7 +4,7 @@
 ghost use Rattle.std.specs.Prelude.{◌≡◌};
 
 use crate::shelf::batches::{SEVENS, ZEROS};
-use crate::shelf::disks::{Held, held_by};
+use crate::shelf::disks::{TwoPages, held_by};
 use cb_page::Limits;
 use cb_serve::{print_served, serve};
 use cb_shelf::Shelf;
@@ -83,7 +83,7 @@ static NO_FRAME: [u8; 16] = [3, 1, 0, 0, 0, 0, 0, 0, 0, 0, 0, 1, 0, 0, 0, 0];
 
 /// How a service ended: what it said, its status (none where the output was refused), and what the
 /// store holds then.
-type Ending<'a> = (&'a str, Option<u8>, Held);
+type ServiceEnd<'a> = (&'a str, Option<u8>, TwoPages);
 
 /// The pieces, one after another.
 fn joined(alloc: Global, pieces: &[&[u8]]) -> Result<Vec<u8>, AllocError> {
@@ -101,7 +101,7 @@ fn ends_so<S: Alter, R: Read, W: Write>(
     shelf: &mut Shelf<S>,
     input: &mut R,
     output: &mut W,
-    ending: Ending<'_>,
+    ending: ServiceEnd<'_>,
 ) -> bool
     requires { shelf.old.limits ≡ limits.now }
 {
@@ -127,7 +127,7 @@ fn serves<S: Alter, R: Read, W: Write>(
     conn: Connection<S>,
     input: &mut R,
     output: &mut W,
-    ending: Ending<'_>,
+    ending: ServiceEnd<'_>,
 ) -> (bool, Connection<S>) {
     let Ok(limits) = Limits::new(2, 2, 16, 2, 1, 1) else {
         return (false, conn);
@@ -146,7 +146,7 @@ fn puts_out<R: Read>(
     alloc: Global,
     input: &mut R,
     pieces: &[&[u8]],
-    ending: Ending<'_>,
+    ending: ServiceEnd<'_>,
 ) -> Result<bool, AllocError> {
     let wanted = joined(alloc, pieces)?;
     let mut output = Vec::new(alloc);
@@ -160,7 +160,7 @@ fn answers(
     alloc: Global,
     input: &[&[u8]],
     pieces: &[&[u8]],
-    ending: Ending<'_>,
+    ending: ServiceEnd<'_>,
 ) -> Result<bool, AllocError> {
     let bytes = joined(alloc, input)?;
     let mut reader = bytes.as_slice();
@@ -283,7 +283,7 @@ fn refused_once(
     alloc: Global,
     kind: ErrorKind,
     pieces: &[&[u8]],
-    ending: Ending<'_>,
+    ending: ServiceEnd<'_>,
 ) -> Result<bool, AllocError> {
     let mut input = RefusesOnce {
         kind: Some(kind),
@@ -312,7 +312,7 @@ fn is_refused(
     alloc: Global,
     room: usize,
     pieces: &[&[u8]],
-    held: Held,
+    held: TwoPages,
 ) -> Result<bool, AllocError> {
     let input = joined(alloc, &[&HELLO, &ASK_READ, &ASK_WRITE, &COMMIT])?;
     let wanted = joined(alloc, pieces)?;

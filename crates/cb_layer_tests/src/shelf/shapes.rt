@@ -1,7 +1,9 @@
 //! Which databases an open takes, and which it refuses.
 
-use crate::shelf::disks::{Deed, Held, Outcome, Session, files_that_stop, reading, run_session};
-use crate::shelf::reopened::outcomes;
+use crate::shelf::disks::{
+    SessionEnd, SessionTask, ShelfSession, TwoPages, files_that_stop, reading, run_session,
+};
+use crate::shelf::reopened::ends_of;
 use cb_page::Limits;
 use cb_shelf::ShelfFault;
 use std::alloc::Global;
@@ -16,7 +18,7 @@ pub(crate) static OLD: &'static str =
      INSERT INTO mark VALUES (1, 3, 16); COMMIT";
 
 /// The store that either holds.
-pub(crate) static OLD_STORE: Held = (3, [(3, 7), (0, 0)]);
+pub(crate) static OLD_STORE: TwoPages = (3, [(3, 7), (0, 0)]);
 
 /// The tables of a shelf that kept no lives, with a store.
 pub(crate) static NEW: &'static str =
@@ -69,16 +71,16 @@ static EMPTIED: &'static str = "INSERT INTO page2 SELECT no, version FROM page; 
      INSERT INTO mark2 SELECT id, commits, page_size, 2 FROM mark";
 
 /// What an open of new files says after these texts.
-fn opened<'a>(alloc: Global, limits: &'a Limits, tables: &'a str, second: &'a str) -> Outcome {
-    let (texts, deed) = ([tables, second], Deed::Load);
+fn opened<'a>(alloc: Global, limits: &'a Limits, tables: &'a str, second: &'a str) -> SessionEnd {
+    let (texts, task) = ([tables, second], SessionTask::Load);
     let files = files_that_stop(alloc, (u64::MAX, u64::MAX));
-    let session = Session {
+    let session = ShelfSession {
         limits,
         texts,
-        deed,
+        task,
     };
-    let (outcome, _) = run_session(alloc, files, session);
-    outcome
+    let (end, _) = run_session(alloc, files, session);
+    end
 }
 
 /// Whether these tables are refused as another shape after each of these texts.
@@ -90,8 +92,8 @@ fn have_other_shapes(
 ) -> bool {
     for text in texts {
         let second = *text;
-        let outcome = opened(alloc, limits, tables, second);
-        if outcome != Outcome::Refused(ShelfFault::Shape) {
+        let end = opened(alloc, limits, tables, second);
+        if end != SessionEnd::Refused(ShelfFault::Shape) {
             return false;
         }
     }
@@ -100,13 +102,13 @@ fn have_other_shapes(
 
 /// Whether old tables are copied, opened again, and left with no row.
 fn is_copied(alloc: Global, limits: &Limits) -> bool {
-    let there = Outcome::Holds(Some(OLD_STORE));
+    let there = SessionEnd::Holds(Some(OLD_STORE));
     let sessions = [
         reading(limits, OLD),
         reading(limits, EMPTIED),
         reading(limits, ""),
     ];
-    let [copied, again, _] = outcomes(alloc, sessions);
+    let [copied, again, _] = ends_of(alloc, sessions);
     copied == there && again == there
 }
 
@@ -123,7 +125,7 @@ fn are_refused(alloc: Global, limits: &Limits) -> bool {
     let new = have_other_shapes(alloc, limits, NEW, &SPOILED);
     let old = have_other_shapes(alloc, limits, OLD, &OLD_SPOILED);
     let both = have_other_shapes(alloc, limits, NEW, &[OLD]);
-    let store = Outcome::Refused(ShelfFault::Store);
+    let store = SessionEnd::Refused(ShelfFault::Store);
     let named = opened(alloc, limits, NAMED, "") == store;
     let begun = opened(alloc, limits, "BEGIN", "") == store;
     new && old && both && named && begun
@@ -133,6 +135,6 @@ fn are_refused(alloc: Global, limits: &Limits) -> bool {
 fn other_shapes_are_refused(rt: HostRuntime) -> Result<(), Fail> {
     let limits = Limits::new(1, 2, 16, 2, 1, 1)?;
     assert!(rt; are_refused(rt.alloc(), &limits));
-    assert!(rt; opened(rt.alloc(), &limits, NEW, "") == Outcome::Holds(Some(OLD_STORE)));
+    assert!(rt; opened(rt.alloc(), &limits, NEW, "") == SessionEnd::Holds(Some(OLD_STORE)));
     Ok(())
 }

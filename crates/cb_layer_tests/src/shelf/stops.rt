@@ -2,7 +2,8 @@
 
 use crate::shelf::batches::{Writing, ZEROS};
 use crate::shelf::disks::{
-    Deed, Held, Outcome, Session, calls_of, files_that_stop, reading, run_session,
+    SessionEnd, SessionTask, ShelfSession, TwoPages, calls_of, files_that_stop, reading,
+    run_session,
 };
 use crate::shelf::shapes::{OLD, OLD_STORE};
 use cb_page::Limits;
@@ -12,16 +13,16 @@ use std::test::Fail;
 
 /// Whether that may be read after a crash, where the disk stopped amid a session over tables of the
 /// store before, in which a commit was to be written.
-fn may_be_left(reached: Outcome, left: Outcome, before: Held, after: Held) -> bool {
-    let Outcome::Holds(Some(held)) = left else {
+fn may_be_left(reached: SessionEnd, left: SessionEnd, before: TwoPages, after: TwoPages) -> bool {
+    let SessionEnd::Holds(Some(held)) = left else {
         return false;
     };
     let zeros = ZEROS;
     match reached {
-        Outcome::Nothing | Outcome::Database => held == before || held == zeros,
-        Outcome::Refused(ShelfFault::Store) => held == before,
-        Outcome::Written(false) => held == before || held == after,
-        Outcome::Written(true) => held == after,
+        SessionEnd::Nothing | SessionEnd::Database => held == before || held == zeros,
+        SessionEnd::Refused(ShelfFault::Store) => held == before,
+        SessionEnd::Written(false) => held == before || held == after,
+        SessionEnd::Written(true) => held == after,
         _ => false,
     }
 }
@@ -36,10 +37,10 @@ struct Stops {
 
 impl Stops {
     /// One more, where it came so far.
-    fn count(&mut self, reached: Outcome) {
+    fn count(&mut self, reached: SessionEnd) {
         match reached {
-            Outcome::Nothing | Outcome::Database => self.before = self.before.wrapping_add(1),
-            Outcome::Refused(_) => self.opening = self.opening.wrapping_add(1),
+            SessionEnd::Nothing | SessionEnd::Database => self.before = self.before.wrapping_add(1),
+            SessionEnd::Refused(_) => self.opening = self.opening.wrapping_add(1),
             _ => self.writing = self.writing.wrapping_add(1),
         }
     }
@@ -49,8 +50,8 @@ impl Stops {
 /// isn't. `None` where a store that was there after a stop wasn't whole.
 fn count_stops(
     alloc: Global,
-    session: Session<'_>,
-    stores: [Held; 2],
+    session: ShelfSession<'_>,
+    stores: [TwoPages; 2],
     is_log: bool,
 ) -> Option<Stops> {
     let [before, after] = stores;
@@ -62,7 +63,7 @@ fn count_stops(
         if !may_be_left(reached, left, before, after) {
             return None;
         }
-        if reached == Outcome::Written(true) {
+        if reached == SessionEnd::Written(true) {
             return Some(stops);
         }
         stops.count(reached);
@@ -76,12 +77,12 @@ fn stop_at_each_call<'a>(
     alloc: Global,
     limits: &'a Limits,
     text: &'a str,
-    stores: [Held; 2],
+    stores: [TwoPages; 2],
 ) -> bool {
-    let session = Session {
+    let session = ShelfSession {
         limits,
         texts: [text, ""],
-        deed: Deed::Write(Writing::Once),
+        task: SessionTask::Write(Writing::Once),
     };
     are_some(count_stops(alloc, session, stores, true))
         && are_some(count_stops(alloc, session, stores, false))

@@ -1,6 +1,6 @@
 //! Asks to read and to write.
-ghost use Rattle.std.specs.Prelude.{◌≡◌, ◌<◌, ◌∷◌, [], if◌then◌else◌, false, true, IfErr, OnErr};
-ghost use Rattle.std.specs.Prelude.{OnOk};
+ghost use Rattle.std.specs.Prelude.{◌≡◌, ◌==◌, ◌<◌, ◌∷◌, [], if◌then◌else◌, false, true, IfErr};
+ghost use Rattle.std.specs.Prelude.{OnErr, OnOk};
 ghost use Rattle.cb_protocol.specs.Messages.{AskRead, AskWrite};
 ghost use Rattle.cb_protocol.specs.Server.{is_write_holder};
 ghost use Rattle.cb_protocol.specs.ServerMessages.{enter_queue, has_waiting_ask, new_ask};
@@ -10,7 +10,8 @@ ghost use Rattle.cb_protocol.specs.Settling.{give_permission, send_granted, sole
 ghost use Rattle.cb_protocol.specs.WaitsFor.{on_cycle};
 ghost use Rattle.cb_server.specs.Answering.{CanGrant, CanSay, HasClient, HasLimits, HasPage};
 ghost use Rattle.cb_server.specs.Answering.{IsCurrent, IsLeft, IsReady, IsStanding, LacksNumber};
-ghost use Rattle.cb_server.specs.Answering.{Makes, Serves, answer_to, places_at, server_in};
+ghost use Rattle.cb_server.specs.Answering.{Makes, Serves, answer_to, asks_in_all, is_free};
+ghost use Rattle.cb_server.specs.Answering.{places_at, server_in};
 ghost use Rattle.cb_server.specs.Taking.{is_exhaustion};
 
 use crate::engine::Engine;
@@ -52,10 +53,60 @@ impl Engine {
             return Err(ServerFault::Exhausted);
         }
         // For a Downgrade or the copy, and for an AbortNow.
-        self.reserve(alloc, limits, 2, 1)?;
+        let nobody_waits = self.reserve(alloc, limits, 2, 1)?;
+        let at_once = self.is_free(client, page, row, nobody_waits);
+        if at_once {
+            return Ok(self.grant_free(client, incarnation, txn, page, standing));
+        }
         self.ask_read(client, incarnation, txn, page, standing, row)?;
         self.settle();
         Ok(())
+    }
+
+    /// Whether the client's ask to read the page, of which it has that row, can be granted at once:
+    /// nobody waits for any page, the client has no copy, and no other client may write the page.
+    fn is_free(
+        &self,
+        client: ClientNo,
+        page: PageNo,
+        row: Option<GrantNo>,
+        nobody_waits: bool,
+    ) -> bool
+        requires page { HasPage self.now page }
+        requires row { row ≡ ((server_in self.now).session client).row page }
+        requires nobody { nobody_waits ≡ (asks_in_all self.now == 0) }
+        ensures { result ≡ is_free self.now client page }
+    {
+        nobody_waits && row.is_none() && self.callbacks.state().no_other_holder(client, page)
+    }
+
+    /// AskRead of a free page, whose transaction stands so. Its ask would enter the page's queue
+    /// and be granted, and settling would find no other. So the copy is granted at once.
+    fn grant_free(
+        &mut self,
+        client: ClientNo,
+        incarnation: Incarnation,
+        txn: TxnNo,
+        page: PageNo,
+        standing: Standing,
+    )
+        requires client { HasClient self.old client }
+        requires page { HasPage self.old page }
+        requires current { IsCurrent self.old client incarnation }
+        requires stands { IsStanding self.old client txn standing }
+        requires number { LacksNumber self.old client (AskRead txn page) false }
+        requires free { is_free self.old client page ≡ true }
+        requires room { CanGrant self.old }
+        ensures { Makes self.old
+            (λ server. take_current on_cycle server client (AskRead txn page)) self.new }
+    {
+        // It isn't 0, which stands for a client that never greeted.
+        let _known = incarnation.get();
+        match self.begin_or_abort(client, incarnation, txn, standing) {
+            Begun::Live => self.callbacks.grant(client, page, &mut self.outbox),
+            Begun::Doomed => {}
+            Begun::Ended => {}
+        }
     }
 
     /// AskRead, whose transaction stands so; the client has that row of the page.

@@ -9,6 +9,7 @@ ghost use Rattle.cb_protocol.specs.Basics.{is_none, max_number};
 ghost use Rattle.cb_protocol.specs.Session.{has_live_txn};
 ghost use Rattle.cb_protocol.specs.Settling.{doom_client, give_permission, grant_row};
 ghost use Rattle.cb_protocol.specs.Settling.{no_other_holder, permit_write, sole_row};
+ghost use Rattle.cb_server_state.specs.Granting.{grant_copy};
 ghost use Rattle.cb_server_state.specs.States.{HasClient, HasPage, IsAsLarge, PartsAgree, Stays};
 ghost use Rattle.cb_server_state.specs.States.{server_of};
 ghost use Rattle.cb_server_state.specs.Waits.{HasBegun, IsGreeted};
@@ -86,6 +87,30 @@ impl ServerState {
         ask.granted()
     }
 
+    /// The client gets a copy of the page, by the next grant. No ask leaves.
+    pub fn grant(&mut self, client: ClientNo, page: PageNo, outbox: &mut Outbox)
+        requires agree { PartsAgree self.old }
+        requires client { HasClient self.old client }
+        requires page { HasPage self.old page }
+        requires greeted { IsGreeted (server_of self.old) client }
+        requires alone { no_other_holder ((server_of self.old).store.holder page) client ≡ true }
+        requires no_row { is_none (((server_of self.old).session client).row page) ≡ true }
+        requires left { (server_of self.old).next_grant ≤ max_number }
+        requires size { IsAsLarge outbox.old self.old }
+        requires room { HasRoomFor (grant_copy (server_of self.old) page client) outbox.old }
+        ensures agree { PartsAgree self.new }
+        ensures says { Says (server_of self.old) (λ server. grant_copy server page client)
+            (server_of self.new) outbox.old outbox.new }
+        ensures stays { Stays self.old self.new }
+        ensures asks { self.new.asks ≡ self.old.asks }
+    {
+        let incarnation = self.incarnation(client);
+        let grant = self.directory.grant(client, page);
+        let store = self.commits.store();
+        let version = store.version(page);
+        outbox.grant(client, incarnation, page, grant, version, store.bytes(page));
+    }
+
     /// The first ask of the page is granted: its client gets a copy, by the next grant.
     pub fn grant_first(&mut self, client: ClientNo, page: PageNo, outbox: &mut Outbox) -> Fate
         requires agree { PartsAgree self.old }
@@ -105,11 +130,7 @@ impl ServerState {
         ensures fate { option_map granted (slice_get (queue_at self.old.asks page) 0)
             ≡ Some result }
     {
-        let incarnation = self.incarnation(client);
-        let grant = self.directory.grant(client, page);
-        let store = self.commits.store();
-        let version = store.version(page);
-        outbox.grant(client, incarnation, page, grant, version, store.bytes(page));
+        self.grant(client, page, outbox);
         self.asks.leave(page).granted()
     }
 

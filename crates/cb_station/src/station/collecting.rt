@@ -5,7 +5,7 @@ ghost use Rattle.cb_mailboxes.specs.Dispatching.{without_oldest};
 ghost use Rattle.cb_mailboxes.specs.Mail.{IsMailFor};
 ghost use Rattle.cb_hands.specs.Joined.{Follow, IsHeld};
 ghost use Rattle.cb_station.specs.Copies.{BringsCopy};
-ghost use Rattle.cb_station.specs.Moves.{collected, is_lasting, received, received_of};
+ghost use Rattle.cb_station.specs.Moves.{IsKnown, collected, is_lasting, received, received_of};
 ghost use Rattle.cb_station.specs.Moves.{told};
 ghost use Rattle.cb_station.specs.Stations.{IsUnchanged, mailbox_of, server_of};
 ghost use Rattle.cb_station.specs.Telling.{untold_in};
@@ -51,7 +51,39 @@ impl Station {
         ensures history { self.new.history ≡ self.old.history }
         ensures flags { self.new.flags ≡ self.old.flags }
     {
-        if !self.hands.knows(hand) {
+        let known = self.knows(hand);
+        self.collect_if_known(hand, known)
+    }
+
+    /// As `collect`, told what [`Station::knows`] answers of the hand, which isn't compared then.
+    pub fn collect_if_known(
+        &mut self,
+        hand: &mut Hand,
+        known: bool,
+    ) -> Result<Option<Frame>, OfficeFault>
+        requires known { IsKnown known self.old hand.old }
+        ensures foreign { (result ≡ Err office.Foreign)
+            ↔ (IsHeld self.old.hands hand.old → ⊥) }
+        ensures faults { IfErr result (λ fault.
+            (fault ≡ office.Foreign) ⊎ (fault ≡ office.Memory)) }
+        ensures err { OnErr result (IsUnchanged self.old self.new × (hand.new ≡ hand.old)) }
+        ensures oldest { IfOk result (λ frame.
+            frame ≡ slice_get (mailbox_of self.old hand.old.client) 0) }
+        ensures sent { IfOk result (λ frame.
+            IfSome frame (IsMailFor (server_of self.old) hand.old.client)) }
+        ensures brings { IfOk result (λ frame.
+            IfSome frame (BringsCopy (server_of self.old) hand.old hand.new)) }
+        ensures rest { OnOk result ((client : ℕ) → mailbox_of self.new client
+            ≡ without_oldest (mailbox_of self.old) hand.old.client client) }
+        ensures server { self.new.dispatcher.server ≡ self.old.dispatcher.server }
+        ensures untold { untold_in self.new ≡ untold_in self.old }
+        ensures hand { IfOk result (λ frame.
+            hand.new ≡ collected (server_of self.old) hand.old frame) }
+        ensures stored { OnOk result (Follow self.old.hands self.new.hands hand.old hand.new) }
+        ensures history { self.new.history ≡ self.old.history }
+        ensures flags { self.new.flags ≡ self.old.flags }
+    {
+        if !known {
             return Err(OfficeFault::Foreign);
         }
         let Some(frame) = self.dispatcher.collect(hand.client())? else {

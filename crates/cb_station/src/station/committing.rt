@@ -9,7 +9,7 @@ ghost use Rattle.cb_hands.specs.declared.entry.Entry.{Entry as Noted};
 ghost use Rattle.cb_hands.specs.Joined.{Follow, IsHeld};
 ghost use Rattle.cb_station.specs.Commits.{AllowsCommit, IsLive, IsOwnCommit, IsPermitted};
 ghost use Rattle.cb_station.specs.Commits.{RefusesCommit, answer_of, is_live, txn_of, writes_of};
-ghost use Rattle.cb_station.specs.Moves.{IsEntryOf, committed, is_commit};
+ghost use Rattle.cb_station.specs.Moves.{IsEntryOf, IsKnown, committed, is_commit};
 ghost use Rattle.cb_station.specs.Stations.{IsUnchanged, mailbox_of, server_of};
 ghost use Rattle.cb_station.specs.declared.office_fault.OfficeFault.TheVariants as office;
 ghost use Rattle.cb_outbox.specs.Messages.{page_writes};
@@ -77,7 +77,8 @@ impl Station {
         ensures flags { OnOk result
             (self.new.flags ≡ record self.old.flags { news = true }) }
     {
-        let number = self.number_for(frame, reads, hand)?;
+        let known = self.knows(hand);
+        let number = self.number_for(frame, reads, hand, known)?;
         let entry = entry_of(alloc, &mut self.history, hand, frame, reads)?;
         // A number is left: it is refused only where memory is.
         if self.dispatcher.take(alloc, frame).is_err() {
@@ -89,14 +90,17 @@ impl Station {
     }
 
     /// As `commit`, but the frame is handed over: the pages of a commit that is taken are moved,
-    /// not copied. The very frame comes back with each fault.
-    pub fn commit_owned(
+    /// not copied. The very frame comes back with each fault. It is told what [`Station::knows`]
+    /// answers of the hand, which isn't compared then.
+    pub fn commit_if_known(
         &mut self,
         alloc: Global,
         frame: Frame,
         reads: &PageSet,
         hand: &mut Hand,
+        known: bool,
     ) -> Result<CommitNo, (OfficeFault, Frame)>
+        requires known { IsKnown known self.old hand.old }
         ensures foreign { (answer_of result ≡ Err office.Foreign)
             ↔ (IsOwnCommit self.old frame hand.old → ⊥) }
         ensures not_held { (answer_of result ≡ Err office.NotHeld)
@@ -130,7 +134,7 @@ impl Station {
         ensures flags { OnOk result
             (self.new.flags ≡ record self.old.flags { news = true }) }
     {
-        let number = match self.number_for(&frame, reads, hand) {
+        let number = match self.number_for(&frame, reads, hand, known) {
             Ok(number) => number,
             Err(fault) => return Err((fault, frame)),
         };
@@ -155,14 +159,16 @@ impl Station {
         frame: &Frame,
         reads: &PageSet,
         hand: &Hand,
+        known: bool,
     ) -> Result<CommitNo, OfficeFault>
+        requires known { IsKnown known self.now hand.now }
         ensures refused { IfErr result (RefusesCommit self.now frame.now hand.now reads.now) }
         ensures allowed { IfOk result (AllowsCommit self.now frame.now hand.now reads.now) }
     {
         let Body::Commit { txn, writes } = &frame.body else {
             return Err(OfficeFault::Foreign);
         };
-        if !self.is_own(frame, hand) {
+        if !self.is_own(frame, hand, known) {
             return Err(OfficeFault::Foreign);
         }
         if !holds_all(hand, reads) || !may_write_all(hand, *txn, writes.as_slice()) {

@@ -3,7 +3,8 @@ ghost use Rattle.std.specs.Prelude.{◌≡◌, ◌↔◌, ◌⊎◌, ◌<◌, �
 ghost use Rattle.std.specs.Prelude.{Err, OnErr, OnOk, max};
 ghost use Rattle.cb_mailboxes.specs.Dispatching.{Everybody, Posts};
 ghost use Rattle.cb_hands.specs.Joined.{Follow, IsHeld};
-ghost use Rattle.cb_station.specs.Moves.{IsOwn, ended_if_over, given_back, is_plain, is_stray};
+ghost use Rattle.cb_station.specs.Moves.{IsKnown, IsOwn, ended_if_over, given_back, is_plain};
+ghost use Rattle.cb_station.specs.Moves.{is_stray};
 ghost use Rattle.cb_station.specs.Stations.{IsUnchanged, mailbox_of, server_of};
 ghost use Rattle.cb_station.specs.declared.office_fault.OfficeFault.TheVariants as office;
 ghost use Rattle.cb_protocol.specs.AnyMessages.{ReachesDisk};
@@ -53,7 +54,42 @@ impl Station {
         ensures history { self.new.history ≡ self.old.history }
         ensures flags { self.new.flags ≡ self.old.flags }
     {
-        if !is_plain(&frame.body) || !self.is_own(frame, hand) {
+        let known = self.knows(hand);
+        self.take_if_known(alloc, frame, hand, known)
+    }
+
+    /// As `take`, told what [`Station::knows`] answers of the hand, which isn't compared then.
+    pub fn take_if_known(
+        &mut self,
+        alloc: Global,
+        frame: &Frame,
+        hand: &mut Hand,
+        known: bool,
+    ) -> Result<(), OfficeFault>
+        requires known { IsKnown known self.old hand.old }
+        ensures foreign { (result ≡ Err office.Foreign) ↔ (IsOwn self.old frame.now hand.old
+            × (is_plain frame.now.body ≡ true) → ⊥) }
+        ensures exhausted { (result ≡ Err office.Exhausted) ↔ (IsOwn self.old frame.now hand.old
+            × (is_plain frame.now.body ≡ true)
+            × (lacks_number_for self.old.dispatcher.server frame.now ≡ true)) }
+        ensures faults { IfErr result (λ fault. (fault ≡ office.Foreign)
+            ⊎ (fault ≡ office.Exhausted) ⊎ (fault ≡ office.Memory)) }
+        ensures err { OnErr result (IsUnchanged self.old self.new × (hand.new ≡ hand.old)) }
+        ensures stray { OnOk result (is_stray hand.old frame.now.body ≡ true
+            → IsUnchanged self.old self.new × (hand.new ≡ hand.old)) }
+        ensures posts { OnOk result (is_stray hand.old frame.now.body ≡ false
+            → Posts self.old.dispatcher (input_of frame.now) (mailbox_of self.old) Everybody
+            self.new.dispatcher) }
+        ensures taken { OnOk result
+            (lacks_number_for self.old.dispatcher.server frame.now ≡ false) }
+        ensures hand { OnOk result (is_stray hand.old frame.now.body ≡ false
+            → hand.new
+            ≡ ended_if_over (server_of self.new) (given_back hand.old frame.now.body)) }
+        ensures stored { OnOk result (Follow self.old.hands self.new.hands hand.old hand.new) }
+        ensures history { self.new.history ≡ self.old.history }
+        ensures flags { self.new.flags ≡ self.old.flags }
+    {
+        if !is_plain(&frame.body) || !self.is_own(frame, hand, known) {
             return Err(OfficeFault::Foreign);
         }
         if is_stray(hand, &frame.body) {

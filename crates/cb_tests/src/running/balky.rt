@@ -1,35 +1,46 @@
-//! A disk of which some writes are refused, and which goes on.
+//! A disk of which some writes are refused, and which goes on. Before a write it may look at an
+//! office.
 ghost use Rattle.std.specs.Prelude.{◌≡◌, ◌+◌, false};
 ghost use Rattle.sqlite_disk.specs.Disk.{CountsFault};
 ghost use Rattle.sqlite_disk.specs.Refusal.{finds_no_room};
 
 use crate::running::clocks::OwnClock;
+use crate::running::looking::Looks;
 use sqlite_disk::{Crash, Disk, Tally};
 use std::io;
+use std::sync::Wait;
 use std::sync::atomic::{AtomicU64, Ordering};
 
 /// Passes every call on but the writes that are to be refused, of which others say how many.
 #[derive(Drop)]
-pub(crate) struct Balky<'a, D: Disk> {
+pub(crate) struct Balky<'a, R, D: Disk> {
+    rt: &'a R,
     inner: D,
     /// How many writes are left to be refused; where nobody says so, none is.
     left: Option<&'a AtomicU64>,
     /// A clock that goes on by writes.
     clock: Option<&'a OwnClock>,
+    /// What is looked at before each write.
+    looks: Option<Looks<'a>>,
     refused: u64,
 }
 
-impl<'a, D: Disk> Balky<'a, D> {
-    /// Refuses as many writes as are left to be; the clock goes on by each write.
+impl<'a, R: Wait, D: Disk> Balky<'a, R, D> {
+    /// Refuses as many writes as are left to be; the clock goes on by each write, and the office is
+    /// looked at before it.
     pub(crate) fn new(
+        rt: &'a R,
         inner: D,
         left: Option<&'a AtomicU64>,
         clock: Option<&'a OwnClock>,
-    ) -> Balky<'a, D> {
+        looks: Option<Looks<'a>>,
+    ) -> Balky<'a, R, D> {
         Balky {
+            rt,
             inner,
             left,
             clock,
+            looks,
             refused: 0,
         }
     }
@@ -44,6 +55,13 @@ impl<'a, D: Disk> Balky<'a, D> {
 fn tell(clock: Option<&OwnClock>) {
     if let Some(clock) = clock {
         clock.write();
+    }
+}
+
+/// Looks at the office, if there is one. Who writes doesn't have its lock.
+fn look<R: Wait>(rt: &R, looks: Option<Looks<'_>>) {
+    if let Some(looks) = looks {
+        looks.counts.look(&looks.office.lock(rt));
     }
 }
 
@@ -64,7 +82,7 @@ fn refuse(left: Option<&AtomicU64>, refused: &mut u64) -> io::Result<()>
     Err(io::Error::other("refused"))
 }
 
-impl<D: Disk> Disk for Balky<'_, D> {
+impl<R: Wait, D: Disk> Disk for Balky<'_, R, D> {
     ghost seen = { λ b. D.Disk.seen b.inner };
 
     ghost may_leave = { λ b. D.Disk.may_leave b.inner };
@@ -119,6 +137,7 @@ impl<D: Disk> Disk for Balky<'_, D> {
 
     fn write_at(&mut self, at: usize, bytes: &[u8]) -> io::Result<()> {
         tell(self.clock);
+        look(self.rt, self.looks);
         refuse(self.left, &mut self.refused)?;
         self.inner.write_at(at, bytes)
     }
@@ -132,7 +151,7 @@ impl<D: Disk> Disk for Balky<'_, D> {
     }
 }
 
-impl<D: Crash> Crash for Balky<'_, D> {
+impl<R: Wait, D: Crash> Crash for Balky<'_, R, D> {
     fn crash(&mut self) {
         self.inner.crash();
     }

@@ -57,9 +57,9 @@ fn lets_go<R: Wait>(
     Ok(are_gone(limits, worker, gone))
 }
 
-/// Whether a worker goes by a chooser that keeps two pages in A1in: so page 0 goes for the last one.
-/// Whether it goes by its limits, by which A1in keeps one, once it began another incarnation: then
-/// page 2 goes.
+/// Whether a worker goes by a chooser that keeps two pages in A1in: so page 0 goes for the last
+/// one. Whether it goes by its limits, by which A1in keeps one, once it began another incarnation:
+/// then page 2 goes.
 fn goes_by_its_chooser<R: Wait>(
     rt: &R,
     alloc: Global,

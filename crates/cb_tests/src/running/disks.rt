@@ -7,7 +7,8 @@ ghost use Rattle.std.specs.Prelude.{◌≡◌, false};
 use crate::running::balky::Balky;
 use crate::running::clocks::OwnClock;
 use crate::running::hurried::Hurried;
-use crate::running::work::{Deed, Outcome, Work, opening, work_on};
+use crate::running::looking::Looks;
+use crate::running::work::{ShelfTask, Work, WorkEnd, opening, work_on};
 use cb_page::Limits;
 use sqlite::{Alter, Connection, FileStore, Files, Options};
 use sqlite_disk::{Crash, Disk, Fuse, Memory};
@@ -28,6 +29,8 @@ pub(crate) struct Faults<'a> {
     pub(crate) frees: bool,
     /// What shows the time, where that isn't the runtime's; it goes on as the log is written.
     pub(crate) clock: Option<&'a OwnClock>,
+    /// What is looked at before each write of the log.
+    pub(crate) looks: Option<Looks<'a>>,
 }
 
 /// Disks that don't stop, and refuse nothing.
@@ -37,6 +40,7 @@ pub(crate) const NONE: Faults<'static> = Faults {
     left: None,
     frees: false,
     clock: None,
+    looks: None,
 };
 
 /// Room for all pages of the tables, which an open clears; and a short log, since a sync of a disk
@@ -81,15 +85,15 @@ fn over<R: Threads + Wait + Clock + Sync, D: Disk + Drop>(
     limits: &Limits,
     files: Files<D>,
     work: Work<'_>,
-) -> (Outcome, Files<D>)
+) -> (WorkEnd, Files<D>)
     requires { limits.now.keep_write ≡ false }
 {
     match connect(alloc, files) {
         Ok(conn) => {
-            let (outcome, conn) = work_on(rt, alloc, limits, conn, work);
-            (outcome, files_of(conn))
+            let (end, conn) = work_on(rt, alloc, limits, conn, work);
+            (end, files_of(conn))
         }
-        Err(files) => (Outcome::Nothing, files),
+        Err(files) => (WorkEnd::Nothing, files),
     }
 }
 
@@ -100,7 +104,7 @@ fn both_over<R: Threads + Wait + Clock + Sync, D: Crash + Drop>(
     limits: &Limits,
     files: Files<D>,
     works: [Work<'_>; 2],
-) -> (Outcome, Outcome)
+) -> (WorkEnd, WorkEnd)
     requires { limits.now.keep_write ≡ false }
 {
     let (reached, mut files) = over(rt, alloc, limits, files, works[0]);
@@ -111,14 +115,26 @@ fn both_over<R: Threads + Wait + Clock + Sync, D: Crash + Drop>(
 }
 
 /// New files, with these faults.
-fn new_files(alloc: Global, faults: Faults<'_>) -> Files<Balky<'_, Fuse<Memory>>> {
+fn new_files<'a, R: Wait>(
+    rt: &'a R,
+    alloc: Global,
+    faults: Faults<'a>,
+) -> Files<Balky<'a, R, Fuse<Memory>>> {
     Files {
         log: Balky::new(
+            rt,
             Fuse::new(Memory::new(alloc), faults.log),
             faults.left,
             faults.clock,
+            faults.looks,
         ),
-        db: Balky::new(Fuse::new(Memory::new(alloc), faults.db), None, None),
+        db: Balky::new(
+            rt,
+            Fuse::new(Memory::new(alloc), faults.db),
+            None,
+            None,
+            None,
+        ),
     }
 }
 
@@ -130,11 +146,12 @@ pub(crate) fn both<R: Threads + Wait + Clock + Sync>(
     clients: u16,
     faults: Faults<'_>,
     works: [Work<'_>; 2],
-) -> (Outcome, Outcome) {
+) -> (WorkEnd, WorkEnd) {
     let Ok(limits) = Limits::new(u64::from(clients), 2, 16, 2, 1, 1) else {
-        return (Outcome::Nothing, Outcome::Nothing);
+        return (WorkEnd::Nothing, WorkEnd::Nothing);
     };
     let room = if faults.frees { faults.left } else { None };
     let hurried = Hurried::new(rt, room, faults.clock);
-    both_over(&hurried, alloc, &limits, new_files(alloc, faults), works)
+    let files = new_files(rt, alloc, faults);
+    both_over(&hurried, alloc, &limits, files, works)
 }

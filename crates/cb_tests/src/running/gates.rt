@@ -1,6 +1,7 @@
 //! The gate of all runs: one type, so that a run is built once; and workers that wait for each
 //! other.
 use crate::running::run::{Came, run_to_end};
+use cb_hands::Entry;
 use cb_page::{ClientNo, CommitNo};
 use cb_run::{Gate, Turn};
 use cb_station::{Office, Station};
@@ -17,6 +18,8 @@ pub(crate) enum Act {
     Joined,
     /// As the first job begins, or each, so many writes are set to be refused.
     Refuse { writes: u64, at_each: bool },
+    /// Every job may begin at once, and the history is looked at before each write.
+    Looked,
     /// As the first job begins the disk is full, and has room again after a second.
     Full,
     /// The office is closed or halted at this call; the first is 0.
@@ -47,9 +50,12 @@ pub(crate) struct Counts {
     calls: Mutex<u64>,
     /// How many jobs were answered as done.
     pub(crate) answered: AtomicU64,
-    /// How many entries of the history hadn't both pages read and written, as jobs were answered;
-    /// and of how many jobs, as they were answered, the commit wasn't on disk.
+    /// How many entries of the history hadn't both pages read and written, whenever they were
+    /// looked at; and of how many jobs, as they were answered, the commit wasn't on disk.
     pub(crate) odd: AtomicU64,
+    /// The entries of the commits up to this number were looked at before writes, in a store that
+    /// had none.
+    looked: AtomicU64,
     /// How many writes are left to be refused.
     pub(crate) left: AtomicU64,
     /// How many commits were on disk when the flusher last waited.
@@ -65,6 +71,7 @@ impl Counts {
             calls: Mutex::new(0),
             answered: AtomicU64::new(0),
             odd: AtomicU64::new(0),
+            looked: AtomicU64::new(0),
             left: AtomicU64::new(0),
             waited: AtomicU64::new(0),
             turns: Mutual {
@@ -75,6 +82,35 @@ impl Counts {
                 spent: AtomicU64::new(0),
             },
         }
+    }
+
+    /// Looks at the entries in memory: from the first that isn't forgotten, up to the last commit.
+    /// They count as looked at only where none is left out between them and those before.
+    pub(crate) fn look(&self, station: &Station) {
+        self.odd.fetch_add(odd_entries(station), Ordering::SeqCst);
+        let Some(next) = station.next_commit() else {
+            return;
+        };
+        let made = next.get().saturating_sub(1);
+        let forgotten = made.saturating_sub(station.history().len() as u64);
+        if forgotten <= self.looked.load(Ordering::SeqCst) {
+            self.looked.store(made, Ordering::SeqCst);
+        }
+    }
+
+    /// Whether the entry of each of so many commits was looked at before it was forgotten, where
+    /// that is to be.
+    fn has_looked(&self, answered: u64) -> bool {
+        match self.plan.act {
+            Act::Looked => self.looked.load(Ordering::SeqCst) == answered,
+            _ => true,
+        }
+    }
+
+    /// Whether all was as it should be, once so many jobs were answered as done.
+    pub(crate) fn is_well(&self, answered: u64) -> bool {
+        let odd = self.odd.load(Ordering::SeqCst);
+        odd == 0 && self.turns.is_well() && self.has_looked(answered)
     }
 }
 
@@ -174,11 +210,24 @@ fn has_reported(station: &Station, answered: u64) -> bool {
     }
 }
 
+/// Whether pages 0 and 1 were read and written, and no others.
+fn has_both(entry: &Entry) -> bool {
+    let read = match entry.reads.as_slice() {
+        [first, second] => first.page.get() == 0 && second.page.get() == 1,
+        _ => false,
+    };
+    let written = match entry.writes.as_slice() {
+        [first, second] => first.get() == 0 && second.get() == 1,
+        _ => false,
+    };
+    read && written
+}
+
 /// How many entries in memory haven't both pages read and written.
 fn odd_entries(station: &Station) -> u64 {
     let mut odd = 0;
     for entry in station.history() {
-        if entry.reads.len() != 2 || entry.writes.len() != 2 {
+        if !has_both(entry) {
             odd = u64::saturating_add(odd, 1);
         }
     }
@@ -242,7 +291,7 @@ impl Mutual {
     }
 
     /// Whether every job was let go before its commit, as it should be.
-    pub(crate) fn is_well(&self) -> bool {
+    fn is_well(&self) -> bool {
         let ungated = self.ungated.load(Ordering::SeqCst);
         ungated == 0 && self.spent.load(Ordering::SeqCst) < TURNS
     }

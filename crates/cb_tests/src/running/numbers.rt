@@ -18,7 +18,7 @@ const COUNT: u64 = 20;
 
 /// What a worker's commit is, by which its entry is known. It read one page at this version.
 #[derive(Clone, Copy)]
-struct Commit {
+struct OwnCommit {
     client: ClientNo,
     incarnation: Incarnation,
     txn: TxnNo,
@@ -29,7 +29,7 @@ struct Commit {
 }
 
 /// Whether an entry of the history is of that commit.
-fn is_of(entry: &Entry, commit: Commit) -> bool {
+fn is_of(entry: &Entry, commit: OwnCommit) -> bool {
     if entry.reads.len() != 1 || entry.writes.len() != usize::from(commit.writes) {
         return false;
     }
@@ -42,7 +42,7 @@ fn is_of(entry: &Entry, commit: Commit) -> bool {
 
 /// Whether the entry at this number's place in the history is of that commit. The first place is
 /// that of number 1: the history is of a store without commits, and nothing was forgotten.
-fn stands_at(station: &Station, number: CommitNo, commit: Commit) -> bool {
+fn stands_at(station: &Station, number: CommitNo, commit: OwnCommit) -> bool {
     let mut place = 1;
     for entry in station.history() {
         if place == number.get() {
@@ -96,7 +96,7 @@ fn are_its_own<R: Wait>(
         let Some(number) = commits(rt, alloc, office, worker, page, writes)? else {
             return Ok(false);
         };
-        let commit = Commit {
+        let commit = OwnCommit {
             client,
             incarnation,
             txn,

@@ -5,7 +5,7 @@ use crate::running::disks::{Faults, NONE, both};
 use crate::running::run::Told;
 use crate::running::trials::Trial;
 use crate::running::visits::commit;
-use crate::running::work::{Deed, Outcome, opening};
+use crate::running::work::{ShelfTask, WorkEnd, opening};
 use cb_frame::Writes;
 use cb_hands::Hand;
 use cb_page::{ClientNo, CommitNo, PageSet, TxnNo};
@@ -188,9 +188,9 @@ fn is_paced<R: Threads + Wait + Clock + Sync>(rt: &R, alloc: Global) -> bool {
         clock: Some(&clock),
         ..NONE
     };
-    let paced = opening(Deed::Try(Trial::Paced(&clock)));
-    let works = [paced, opening(Deed::Nothing)];
-    both(rt, alloc, 2, faults, works).0 == Outcome::Well(true)
+    let paced = opening(ShelfTask::Try(Trial::Paced(&clock)));
+    let works = [paced, opening(ShelfTask::Nothing)];
+    both(rt, alloc, 2, faults, works).0 == WorkEnd::Well(true)
 }
 
 #[test]

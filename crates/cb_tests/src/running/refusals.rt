@@ -17,7 +17,7 @@ use std::time::Clock;
 
 /// What comes between the first refusal of a batch and its write.
 #[derive(Clone, Copy)]
-pub(crate) enum Refusal {
+pub(crate) enum BetweenTries {
     /// Three tries, after which the office is halted; and one more refusal.
     Tries,
     /// The client waits for its Done.
@@ -121,19 +121,19 @@ fn is_written_at_last<R: Wait + Clock, S: Alter>(
     office: &Office,
     shelf: &mut Shelf<S>,
     hand: &mut Hand,
-    refusal: Refusal,
+    between: BetweenTries,
 ) -> bool {
     let mut told = Told::none();
     shelf.limit_steps(1);
-    let given_up = match refusal {
-        Refusal::Tries => is_given_up(rt, alloc, office, shelf, &mut told),
+    let given_up = match between {
+        BetweenTries::Tries => is_given_up(rt, alloc, office, shelf, &mut told),
         _ => true,
     };
     let stopped = flush_loop_watched(rt, alloc, office, shelf, &mut told);
     shelf.limit_steps(0);
     let zeros = holds_sevens(alloc, limits, shelf, 0);
-    let last = match refusal {
-        Refusal::Again => 1 + u64::from(commits(rt, alloc, office, hand, TxnNo::new(2))),
+    let last = match between {
+        BetweenTries::Again => 1 + u64::from(commits(rt, alloc, office, hand, TxnNo::new(2))),
         _ => 1,
     };
     let written = match stopped {
@@ -155,7 +155,7 @@ pub(crate) fn is_refused_at_first<R: Wait + Clock, S: Alter>(
     limits: &Limits,
     office: &Office,
     shelf: &mut Shelf<S>,
-    refusal: Refusal,
+    between: BetweenTries,
 ) -> bool {
     let joined = office.lock(rt).join(alloc, ClientNo::new(0));
     let Ok(mut hand) = joined else {
@@ -163,9 +163,9 @@ pub(crate) fn is_refused_at_first<R: Wait + Clock, S: Alter>(
     };
     let committed = commits(rt, alloc, office, &mut hand, TxnNo::new(1));
     office.close(rt);
-    let written = match refusal {
-        Refusal::Unwatched => is_written_next(rt, alloc, office, shelf),
-        _ => is_written_at_last(rt, alloc, limits, office, shelf, &mut hand, refusal),
+    let written = match between {
+        BetweenTries::Unwatched => is_written_next(rt, alloc, office, shelf),
+        _ => is_written_at_last(rt, alloc, limits, office, shelf, &mut hand, between),
     };
     hand.abandon();
     committed && written && is_reported(rt, alloc, office)
@@ -173,15 +173,15 @@ pub(crate) fn is_refused_at_first<R: Wait + Clock, S: Alter>(
 
 #[test]
 fn refused_write_is_written_again(rt: HostRuntime) {
-    assert!(rt; goes_well(Trial::Refused(Refusal::Tries), &rt, rt.alloc()));
+    assert!(rt; goes_well(Trial::Refused(BetweenTries::Tries), &rt, rt.alloc()));
 }
 
 #[test]
 fn no_done_before_its_batch_is_written(rt: HostRuntime) {
-    assert!(rt; goes_well(Trial::Refused(Refusal::Awaited), &rt, rt.alloc()));
+    assert!(rt; goes_well(Trial::Refused(BetweenTries::Awaited), &rt, rt.alloc()));
 }
 
 #[test]
 fn refused_batch_goes_first(rt: HostRuntime) {
-    assert!(rt; goes_well(Trial::Refused(Refusal::Again), &rt, rt.alloc()));
+    assert!(rt; goes_well(Trial::Refused(BetweenTries::Again), &rt, rt.alloc()));
 }

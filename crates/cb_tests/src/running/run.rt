@@ -4,7 +4,7 @@ use crate::running::flags::greet;
 use crate::running::gates::{Act, Counts, Guarded, Plan};
 use crate::running::tickets::narrow;
 use crate::running::trials::Trial;
-use crate::running::work::{Deed, Outcome, Work, opening};
+use crate::running::work::{ShelfTask, Work, WorkEnd, opening};
 use cb_admission::AdmissionWindow;
 use cb_page::{ClientNo, CommitNo, Limits};
 use cb_run::{RunEnd, Watch, run_on_watched};
@@ -220,8 +220,7 @@ pub(crate) fn came_in<R: Threads + Wait + Clock + Sync, S: Alter>(
         rt, alloc, limits, office, shelf, jobs, &gate, &mut watch, &mut out, &mut err,
     );
     let answered = counts.answered.load(Ordering::SeqCst);
-    let odd = counts.odd.load(Ordering::SeqCst);
-    let whole = is_whole(&office.lock(rt), watch.told.last) && odd == 0 && counts.turns.is_well();
+    let whole = is_whole(&office.lock(rt), watch.told.last) && counts.is_well(answered);
     if !are_fair(office.lock(rt).window(), answered) {
         return Came::Wrong;
     }
@@ -239,8 +238,8 @@ pub(crate) fn came_in<R: Threads + Wait + Clock + Sync, S: Alter>(
 /// Workers run after a text.
 fn running<'a>(text: &'a str, counts: &'a Counts) -> Work<'a> {
     let trial = Trial::Run(counts);
-    let deed = Deed::Try(trial);
-    Work { text, deed }
+    let task = ShelfTask::Try(trial);
+    Work { text, task }
 }
 
 /// Whether the disk is full for a while.
@@ -268,13 +267,14 @@ pub(crate) fn came_over<R: Threads + Wait + Clock + Sync>(
         left: Some(&counts.left),
         frees: is_full(plan.act),
         clock: None,
+        looks: None,
     };
-    let works = [running(text, &counts), opening(Deed::Begin(&counts))];
+    let works = [running(text, &counts), opening(ShelfTask::Begin(&counts))];
     match both(rt, alloc, plan.clients, faults, works) {
-        (Outcome::Ran(Came::Exhausted), _) => Came::Exhausted,
-        (Outcome::Ran(came), Outcome::Well(true)) => came,
-        (Outcome::Nothing, Outcome::Well(true)) => Came::Stopped,
-        (Outcome::Refused(ShelfFault::Store), Outcome::Well(true)) => Came::Stopped,
+        (WorkEnd::Ran(Came::Exhausted), _) => Came::Exhausted,
+        (WorkEnd::Ran(came), WorkEnd::Well(true)) => came,
+        (WorkEnd::Nothing, WorkEnd::Well(true)) => Came::Stopped,
+        (WorkEnd::Refused(ShelfFault::Store), WorkEnd::Well(true)) => Came::Stopped,
         _ => Came::Wrong,
     }
 }
@@ -297,13 +297,6 @@ pub(crate) fn open_plan(clients: u16, jobs: u32, steps: u64) -> Plan {
         steps,
         act,
     }
-}
-
-/// The stored run of `cb_play` has 100 jobs for each client, over a file.
-#[test]
-fn counters(rt: HostRuntime) {
-    assert!(rt; run_to_end(&rt, rt.alloc(), open_plan(4, 25, 0)) == Came::Done(100));
-    assert!(rt; run_to_end(&rt, rt.alloc(), open_plan(1, 0, 0)) == Came::Done(0));
 }
 
 /// No write gets through: three tries, then the office is halted.

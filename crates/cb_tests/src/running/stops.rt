@@ -2,7 +2,7 @@
 //! or refuses some writes.
 use crate::running::gates::{Act, Counts, Plan};
 use crate::running::run::{Came, came_over, open_plan, run_to_end};
-use crate::running::work::Outcome;
+use crate::running::work::WorkEnd;
 use cb_commit::Store;
 use cb_page::{Limits, PageNo};
 use cb_run::counter_sum;
@@ -35,12 +35,12 @@ pub(crate) fn is_beginning<S: Alter>(
     limits: &Limits,
     shelf: &mut Shelf<S>,
     counts: &Counts,
-) -> Outcome {
+) -> WorkEnd {
     let answered = counts.answered.load(Ordering::SeqCst);
     let jobs = u64::from(counts.plan.clients).saturating_mul(u64::from(counts.plan.jobs));
     match shelf.load(alloc) {
-        Ok(store) => Outcome::Well(are_first(limits, &store, answered, jobs)),
-        Err(fault) => Outcome::Refused(fault),
+        Ok(store) => WorkEnd::Well(are_first(limits, &store, answered, jobs)),
+        Err(fault) => WorkEnd::Refused(fault),
     }
 }
 

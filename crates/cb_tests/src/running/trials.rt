@@ -10,15 +10,16 @@ use crate::running::flags::{Flags, Moment, follows, wakes};
 use crate::running::gates::Counts;
 use crate::running::giving_up::drops_and_gives_up;
 use crate::running::late::{comes_too_late, is_skipped, is_skipped_beside};
+use crate::running::looking::Looks;
 use crate::running::numbers::are_answered_their_own;
 use crate::running::other_limits::is_refused_with_others;
 use crate::running::pacing::keeps_pace;
-use crate::running::refusals::{Refusal, is_refused_at_first};
+use crate::running::refusals::{BetweenTries, is_refused_at_first};
 use crate::running::run::came_in;
 use crate::running::sharing::are_shared;
 use crate::running::tickets::{Wake, ends_its_wait, goes_on_until_halted};
 use crate::running::unwatched::is_counted;
-use crate::running::work::{Deed, Outcome, opening};
+use crate::running::work::{ShelfTask, WorkEnd, opening};
 use cb_page::{ClientNo, Limits};
 use cb_shelf::{Shelf, ShelfFault};
 use cb_station::{Office, Station};
@@ -59,7 +60,7 @@ pub(crate) enum Trial<'a> {
     /// Clients come with limits that aren't the office's.
     OtherLimits,
     /// A batch is refused at first.
-    Refused(Refusal),
+    Refused(BetweenTries),
     /// A try waits to be let in until this ends its wait.
     Entered(Wake),
     /// A client's tries are let in one after another, until the office is halted.
@@ -70,6 +71,8 @@ pub(crate) enum Trial<'a> {
     Unwatched,
     /// Workers run.
     Run(&'a Counts),
+    /// The same, in the office that is looked at.
+    LookedAt(Looks<'a>),
 }
 
 /// How many calls of `work` the office is for.
@@ -110,7 +113,7 @@ fn comes_with<R: Wait + Threads + Clock + Sync, S: Alter>(
     limits: &Limits,
     office: &Office,
     shelf: &mut Shelf<S>,
-) -> Outcome {
+) -> WorkEnd {
     let well = match trial {
         Trial::Station => is_worked_through(alloc, shelf),
         Trial::Greatest => works_at_the_greatest(alloc, limits, shelf),
@@ -124,16 +127,20 @@ fn comes_with<R: Wait + Threads + Clock + Sync, S: Alter>(
         Trial::Skipped => is_skipped::<TwoQ, R>(rt, alloc, limits, office),
         Trial::SkippedBeside => is_skipped_beside(rt, office),
         Trial::OtherLimits => is_refused_with_others::<TwoQ, R>(rt, alloc, limits, office),
-        Trial::Refused(refusal) => is_refused_at_first(rt, alloc, limits, office, shelf, refusal),
+        Trial::Refused(between) => is_refused_at_first(rt, alloc, limits, office, shelf, between),
         Trial::Entered(wake) => ends_its_wait(rt, alloc, limits, office, wake),
         Trial::GoingOn => goes_on_until_halted(rt, alloc, limits, office),
         Trial::Paced(clock) => keeps_pace(rt, alloc, office, shelf, clock),
         Trial::Unwatched => is_counted(rt, alloc, limits, office, shelf),
         Trial::Run(counts) => {
-            return Outcome::Ran(came_in(rt, alloc, limits, office, shelf, counts));
+            return WorkEnd::Ran(came_in(rt, alloc, limits, office, shelf, counts));
+        }
+        Trial::LookedAt(looks) => {
+            let Looks { office, counts } = looks;
+            return WorkEnd::Ran(came_in(rt, alloc, limits, office, shelf, counts));
         }
     };
-    Outcome::Well(well)
+    WorkEnd::Well(well)
 }
 
 /// What comes of it over a shelf: the office is over what that holds.
@@ -143,20 +150,20 @@ pub(crate) fn comes_over<R: Wait + Threads + Clock + Sync, S: Alter>(
     alloc: Global,
     limits: &Limits,
     shelf: &mut Shelf<S>,
-) -> Outcome
+) -> WorkEnd
     requires plain { limits.now.keep_write ≡ false }
     requires shelf { shelf.old.limits ≡ limits.now }
 {
     let store = match shelf.load(alloc) {
         Ok(store) => store,
-        Err(fault) => return Outcome::Refused(fault),
+        Err(fault) => return WorkEnd::Refused(fault),
     };
     match Station::new(alloc, limits, store) {
         Ok(station) => {
             let office = Office::new(station, calls_of(trial));
             comes_with(trial, rt, alloc, limits, &office, shelf)
         }
-        Err(_) => Outcome::Refused(ShelfFault::Memory),
+        Err(_) => WorkEnd::Refused(ShelfFault::Memory),
     }
 }
 
@@ -166,6 +173,6 @@ pub(crate) fn goes_well<R: Wait + Threads + Clock + Sync>(
     rt: &R,
     alloc: Global,
 ) -> bool {
-    let works = [opening(Deed::Try(trial)), opening(Deed::Nothing)];
-    both(rt, alloc, 4, NONE, works).0 == Outcome::Well(true)
+    let works = [opening(ShelfTask::Try(trial)), opening(ShelfTask::Nothing)];
+    both(rt, alloc, 4, NONE, works).0 == WorkEnd::Well(true)
 }

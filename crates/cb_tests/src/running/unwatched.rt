@@ -1,6 +1,6 @@
 //! A flusher and a run on which nobody looks.
 use crate::running::gates::{Counts, Guarded};
-use crate::running::refusals::{Refusal, is_refused};
+use crate::running::refusals::{BetweenTries, is_refused};
 use crate::running::run::{open_plan, status_of};
 use crate::running::trials::{Trial, goes_well};
 use cb_page::Limits;
@@ -60,5 +60,5 @@ fn a_run_on_which_nobody_looks(rt: HostRuntime) {
 
 #[test]
 fn a_flusher_on_which_nobody_looks(rt: HostRuntime) {
-    assert!(rt; goes_well(Trial::Refused(Refusal::Unwatched), &rt, rt.alloc()));
+    assert!(rt; goes_well(Trial::Refused(BetweenTries::Unwatched), &rt, rt.alloc()));
 }

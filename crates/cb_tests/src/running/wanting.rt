@@ -4,7 +4,7 @@ use crate::running::disks::{NONE, both};
 use crate::running::gates::Counts;
 use crate::running::run::{Came, open_plan};
 use crate::running::trials::Trial;
-use crate::running::work::{Deed, Outcome, opening};
+use crate::running::work::{ShelfTask, WorkEnd, opening};
 use cb_shelf::ShelfFault;
 use std::alloc::Global;
 use std::sync::Wait;
@@ -27,23 +27,23 @@ enum End {
 }
 
 /// What a refusal behind the run, as its disk is looked at, may leave of that look.
-fn is_unseen(outcome: Outcome) -> bool {
-    match outcome {
-        Outcome::Nothing | Outcome::Database => true,
-        Outcome::Refused(fault) => fault == ShelfFault::Memory,
+fn is_unseen(end: WorkEnd) -> bool {
+    match end {
+        WorkEnd::Nothing | WorkEnd::Database => true,
+        WorkEnd::Refused(fault) => fault == ShelfFault::Memory,
         _ => false,
     }
 }
 
 /// How it ended, by what came of the run and of the look at its disk. No more than one growth is
 /// refused, so that the look goes well where the run doesn't.
-fn end_of(ran: Outcome, seen: Outcome) -> End {
-    let is_seen = seen == Outcome::Well(true);
+fn end_of(ran: WorkEnd, seen: WorkEnd) -> End {
+    let is_seen = seen == WorkEnd::Well(true);
     match ran {
-        Outcome::Ran(Came::Done(answered)) if answered == ALL && is_seen => End::Done,
-        Outcome::Ran(Came::Done(answered)) if answered == ALL && is_unseen(seen) => End::Outside,
-        Outcome::Ran(Came::Memory) if is_seen => End::Memory,
-        Outcome::Ran(Came::Unseen) if is_seen => End::Outside,
+        WorkEnd::Ran(Came::Done(answered)) if answered == ALL && is_seen => End::Done,
+        WorkEnd::Ran(Came::Done(answered)) if answered == ALL && is_unseen(seen) => End::Outside,
+        WorkEnd::Ran(Came::Memory) if is_seen => End::Memory,
+        WorkEnd::Ran(Came::Unseen) if is_seen => End::Outside,
         ran if is_unseen(ran) && is_seen => End::Outside,
         _ => End::Wrong,
     }
@@ -52,8 +52,8 @@ fn end_of(ran: Outcome, seen: Outcome) -> End {
 /// How a run over new disks ends, of two clients with two jobs each.
 fn ended<R: Threads + Wait + Clock + Sync>(rt: &R, alloc: Global) -> End {
     let counts = Counts::new(open_plan(2, 2, 0));
-    let run = opening(Deed::Try(Trial::Run(&counts)));
-    let works = [run, opening(Deed::Begin(&counts))];
+    let run = opening(ShelfTask::Try(Trial::Run(&counts)));
+    let works = [run, opening(ShelfTask::Begin(&counts))];
     let (ran, seen) = both(rt, alloc, 2, NONE, works);
     end_of(ran, seen)
 }

@@ -18,12 +18,12 @@ use std::time::Clock;
 #[derive(Clone, Copy)]
 pub(crate) struct Work<'a> {
     pub(crate) text: &'a str,
-    pub(crate) deed: Deed<'a>,
+    pub(crate) task: ShelfTask<'a>,
 }
 
 /// What is done to a shelf that was opened.
 #[derive(Clone, Copy)]
-pub(crate) enum Deed<'a> {
+pub(crate) enum ShelfTask<'a> {
     Nothing,
     /// It holds what the first commits of a run left, at least those that were answered as done.
     Begin(&'a Counts),
@@ -35,7 +35,7 @@ pub(crate) enum Deed<'a> {
 
 /// What came of it.
 #[derive(Clone, Copy, PartialEq, Eq)]
-pub(crate) enum Outcome {
+pub(crate) enum WorkEnd {
     /// No database was opened.
     Nothing,
     /// The database was opened, and the text didn't run.
@@ -49,8 +49,8 @@ pub(crate) enum Outcome {
 }
 
 /// A shelf is opened, and this is done to it.
-pub(crate) fn opening(deed: Deed<'_>) -> Work<'_> {
-    Work { text: "", deed }
+pub(crate) fn opening(task: ShelfTask<'_>) -> Work<'_> {
+    Work { text: "", task }
 }
 
 /// Does this over a connection, which comes back.
@@ -60,18 +60,18 @@ pub(crate) fn work_on<R: Threads + Wait + Clock + Sync, S: Alter>(
     limits: &Limits,
     mut conn: Connection<S>,
     work: Work<'_>,
-) -> (Outcome, Connection<S>)
+) -> (WorkEnd, Connection<S>)
     requires { limits.now.keep_write ≡ false }
 {
     if conn.execute_batch(work.text).is_err() {
-        return (Outcome::Database, conn);
+        return (WorkEnd::Database, conn);
     }
     match Shelf::open(alloc, conn, limits) {
         Ok(mut shelf) => {
-            let outcome = done(rt, alloc, limits, &mut shelf, work.deed);
-            (outcome, shelf.close())
+            let end = done(rt, alloc, limits, &mut shelf, work.task);
+            (end, shelf.close())
         }
-        Err((fault, conn)) => (Outcome::Refused(fault), conn),
+        Err((fault, conn)) => (WorkEnd::Refused(fault), conn),
     }
 }
 
@@ -81,17 +81,17 @@ fn done<R: Threads + Wait + Clock + Sync, S: Alter>(
     alloc: Global,
     limits: &Limits,
     shelf: &mut Shelf<S>,
-    deed: Deed<'_>,
-) -> Outcome
+    task: ShelfTask<'_>,
+) -> WorkEnd
     requires plain { limits.now.keep_write ≡ false }
     requires shelf { shelf.old.limits ≡ limits.now }
 {
-    match deed {
-        Deed::Nothing => Outcome::Well(true),
-        Deed::Begin(counts) => is_beginning(alloc, limits, shelf, counts),
-        Deed::Try(trial) => comes_over(trial, rt, alloc, limits, shelf),
-        Deed::Example => {
-            Outcome::Well(puts_the_page_there(rt, alloc, limits, shelf) == Some(true))
+    match task {
+        ShelfTask::Nothing => WorkEnd::Well(true),
+        ShelfTask::Begin(counts) => is_beginning(alloc, limits, shelf, counts),
+        ShelfTask::Try(trial) => comes_over(trial, rt, alloc, limits, shelf),
+        ShelfTask::Example => {
+            WorkEnd::Well(puts_the_page_there(rt, alloc, limits, shelf) == Some(true))
         },
     }
 }

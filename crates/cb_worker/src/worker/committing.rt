@@ -3,6 +3,7 @@ ghost use Rattle.std.specs.Prelude.{◌≡◌, ◌≢◌, IfErr, IfOk, OnOk};
 ghost use Rattle.cb_client.specs.CallAnswers.{SaysCommit};
 ghost use Rattle.cb_client_core.specs.ClientState.{IsClient};
 ghost use Rattle.cb_client_core.specs.declared.stage.Stage.TheVariants.{Idle};
+ghost use Rattle.cb_station.specs.Moves.{IsKnown};
 ghost use Rattle.cb_worker.specs.Committing.{CommitsAt, FinishesOrAgain, HandsFrameIn};
 ghost use Rattle.cb_worker.specs.Committing.{RefusesFrame};
 ghost use Rattle.cb_worker.specs.Refusals.{LacksFrame};
@@ -33,22 +34,25 @@ impl<Q: Chooser> Worker<Q> {
         ensures { CommitsAt self.old station.old result self.new station.new }
     {
         let frame = self.commit_frame(alloc)?;
-        Ok(self.hand_frame_in(alloc, frame, station)?)
+        let known = station.knows(&self.hand);
+        Ok(self.hand_frame_in(alloc, frame, station, known)?)
     }
 
     /// As `commit_at`, but by a frame that has the commit already, if one is to be sent. No page is
-    /// copied.
+    /// copied. It is told whether the station knows the hand.
     pub(super) fn commit_by(
         &mut self,
         alloc: Global,
         frame: Frame,
         station: &mut Station,
+        known: bool,
     ) -> Result<CommitNo, WorkerFault>
         requires says { self.old.client.stage ≢ Idle → SaysCommit self.old.client frame }
+        requires known { IsKnown known station.old self.old.hand }
         ensures { CommitsAt self.old station.old result self.new station.new }
     {
         self.finish_by(&frame)?;
-        Ok(self.hand_frame_in(alloc, frame, station)?)
+        Ok(self.hand_frame_in(alloc, frame, station, known)?)
     }
 
     /// The Commit frame of the open or committing transaction. It takes no lock, and nothing
@@ -100,14 +104,16 @@ impl<Q: Chooser> Worker<Q> {
         alloc: Global,
         frame: Frame,
         station: &mut Station,
+        known: bool,
     ) -> Result<CommitNo, OfficeFault>
+        requires { IsKnown known station.old self.old.hand }
         ensures hands { HandsFrameIn self.old station.old frame result self.new station.new }
         ensures arose { IsClient self.old.client }
     {
         // What holds of every client, its limits say.
         let _known = self.client.limits();
         let reads = self.client.locked();
-        let refused = match station.commit_owned(alloc, frame, reads, &mut self.hand) {
+        let refused = match station.commit_if_known(alloc, frame, reads, &mut self.hand, known) {
             Ok(number) => return Ok(number),
             Err(refused) => refused,
         };

@@ -242,7 +242,8 @@ impl<Q: Chooser> Worker<Q> {
         ensures why { IfErr result (λ refused. StopsServing refused.1 refused.0) }
     {
         let mut station = office.lock_to_wait(rt);
-        let first = self.go_on(rt, alloc, office, &Awaited::Welcome, &mut station);
+        let known = station.knows(&self.hand);
+        let first = self.go_on(rt, alloc, office, &Awaited::Welcome, &mut station, known);
         match self.wait_on(rt, alloc, office, &Awaited::Welcome, station, first) {
             Ok(_) => Ok(self),
             Err(fault) => Err((fault, self)),

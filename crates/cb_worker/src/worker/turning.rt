@@ -1,5 +1,6 @@
 //! Turns: what is kept is handed in or taken, and more is collected.
 ghost use Rattle.std.specs.Prelude.{◌≡◌, ◌≢◌, ◌<◌, [], length, None, IfSome, IsSome, OnOk};
+ghost use Rattle.cb_station.specs.Moves.{IsKnown};
 ghost use Rattle.cb_worker.specs.Turns.{Collects, TakesCollected, Turns};
 
 use crate::said::Said;
@@ -20,13 +21,28 @@ impl<Q: Chooser> Worker<Q> {
     pub fn turn_at(&mut self, alloc: Global, station: &mut Station) -> Result<bool, WorkerFault>
         ensures { Turns self.old station.old result self.new station.new }
     {
+        let known = station.knows(&self.hand);
+        self.turn_knowing(alloc, station, known)
+    }
+
+    /// The same, told whether the station knows the hand. Each call here that is told so under one
+    /// lock leaves that as it is.
+    pub(super) fn turn_knowing(
+        &mut self,
+        alloc: Global,
+        station: &mut Station,
+        known: bool,
+    ) -> Result<bool, WorkerFault>
+        requires { IsKnown known station.old self.old.hand }
+        ensures { Turns self.old station.old result self.new station.new }
+    {
         if !self.said.is_empty() {
-            return self.hand_in(alloc, station);
+            return self.hand_in(alloc, station, known);
         }
         if self.collected.is_some() {
             return self.take_collected(alloc);
         }
-        self.collect(alloc, station)
+        self.collect(alloc, station, known)
     }
 
     /// Hands the oldest kept frame in.
@@ -34,8 +50,10 @@ impl<Q: Chooser> Worker<Q> {
         &mut self,
         alloc: Global,
         station: &mut Station,
+        known: bool,
     ) -> Result<bool, WorkerFault>
-        requires { self.old.said ≢ [] }
+        requires said { self.old.said ≢ [] }
+        requires known { IsKnown known station.old self.old.hand }
         ensures turns { Turns self.old station.old result self.new station.new }
         ensures client { self.new.client ≡ self.old.client }
         ensures fewer { OnOk result (length self.new.said < length self.old.said) }
@@ -43,7 +61,7 @@ impl<Q: Chooser> Worker<Q> {
         let Some(frame) = self.said.oldest() else {
             unreachable!()
         };
-        match station.take(alloc, frame, &mut self.hand) {
+        match station.take_if_known(alloc, frame, &mut self.hand, known) {
             Err(fault) => Err(WorkerFault::Office(fault)),
             Ok(()) => {
                 self.said.remove_oldest();
@@ -79,12 +97,18 @@ impl<Q: Chooser> Worker<Q> {
     }
 
     /// Collects a frame, and lets the client take it.
-    fn collect(&mut self, alloc: Global, station: &mut Station) -> Result<bool, WorkerFault>
+    fn collect(
+        &mut self,
+        alloc: Global,
+        station: &mut Station,
+        known: bool,
+    ) -> Result<bool, WorkerFault>
         requires said { self.old.said ≡ [] }
         requires collected { self.old.collected ≡ None }
+        requires known { IsKnown known station.old self.old.hand }
         ensures { Collects self.old station.old result self.new station.new }
     {
-        match station.collect(&mut self.hand) {
+        match station.collect_if_known(&mut self.hand, known) {
             Err(fault) => Err(WorkerFault::Office(fault)),
             Ok(None) => Ok(false),
             Ok(Some(frame)) => {

@@ -9,6 +9,7 @@ ghost use Rattle.cb_protocol.specs.Client as protocol;
 ghost use Rattle.cb_protocol.specs.ClientCalls.{CallDrop, CallWant};
 ghost use Rattle.cb_worker.specs.Asking.{AsksFor, AsksToWrite};
 ghost use Rattle.cb_worker.specs.Lending.{worker_ends};
+ghost use Rattle.cb_station.specs.Moves.{IsKnown};
 ghost use Rattle.cb_station.specs.Stations.{IsStation};
 ghost use Rattle.cb_station.specs.Telling.{IsTold};
 ghost use Rattle.cb_worker.specs.Dropping.{Drops, IsDropped, SaysDrop};
@@ -75,7 +76,33 @@ impl<Q: Chooser> Worker<Q> {
         ensures sound { IsStation station.old }
         ensures refused { IfErr result (StopsServing self.new) }
     {
-        let served = self.make_turns(rt, alloc, station);
+        let known = station.knows(&self.hand);
+        self.serve_knowing(rt, alloc, office, station, known)
+    }
+
+    /// The same, told whether the station knows the hand. A call that serves more than once under
+    /// one lock asks for that once.
+    fn serve_knowing<R: Wait>(
+        &mut self,
+        rt: &R,
+        alloc: Global,
+        office: &Office,
+        station: &mut Station,
+        known: bool,
+    ) -> Result<(), WorkerFault>
+        requires { IsKnown known station.old self.old.hand }
+        ensures serves { ServesAndTells self.old station.old result self.new station.new }
+        ensures served { OnOk result (IsServed self.new) }
+        ensures still { IsStill self.old self.new }
+        ensures used { KeepsUsed (seen_by self.old) (seen_by self.new) }
+        ensures goes { OpenOrAborted (seen_by self.old) (seen_by self.new) }
+        ensures halted { (result ≡ Err WorkerFault.Halted) ↔ (station.old.flags.halted ≡ true) }
+        ensures told { IsTold station.new }
+        ensures sound { IsStation station.old }
+        ensures refused { IfErr result (StopsServing self.new) }
+        ensures known { IsKnown known station.new self.new.hand }
+    {
+        let served = self.make_turns(rt, alloc, station, known);
         office.tell(station);
         served
     }
@@ -86,7 +113,10 @@ impl<Q: Chooser> Worker<Q> {
         rt: &R,
         alloc: Global,
         station: &mut Station,
+        known: bool,
     ) -> Result<(), WorkerFault>
+        requires { IsKnown known station.old self.old.hand }
+        ensures known { IsKnown known station.new self.new.hand }
         ensures serves { Serves self.old station.old result self.new station.new }
         ensures served { OnOk result (IsServed self.new) }
         ensures still { IsStill self.old self.new }
@@ -102,7 +132,7 @@ impl<Q: Chooser> Worker<Q> {
             if station.is_halted() {
                 return Err(WorkerFault::Halted);
             }
-            let turned = self.turn_at(alloc, station)?;
+            let turned = self.turn_knowing(alloc, station, known)?;
             if !turned {
                 return Ok(());
             }
@@ -118,7 +148,10 @@ impl<Q: Chooser> Worker<Q> {
         alloc: Global,
         office: &Office,
         station: &mut Station,
+        known: bool,
     ) -> Result<bool, WorkerFault>
+        requires { IsKnown known station.old self.old.hand }
+        ensures known { IsKnown known station.new self.new.hand }
         ensures aborted { IfOk result (λ aborted.
             IsTrue aborted → Ended self.new protocol.Aborted) }
         ensures served { OnOk result (IsServed self.new) }
@@ -127,7 +160,7 @@ impl<Q: Chooser> Worker<Q> {
         ensures told { IsTold station.new }
         ensures refused { IfErr result (StopsServing self.new) }
     {
-        self.serve_at(rt, alloc, office, station)?;
+        self.serve_knowing(rt, alloc, office, station, known)?;
         Ok(self.is_aborted())
     }
 
@@ -202,14 +235,15 @@ impl<Q: Chooser> Worker<Q> {
         ensures told { IsTold station.new }
         ensures refused { IfErr result (StopsOr self.new (RefusesAsk self.new page)) }
     {
-        let aborted = self.serve_first(rt, alloc, office, station)?;
+        let known = station.knows(&self.hand);
+        let aborted = self.serve_first(rt, alloc, office, station, known)?;
         if aborted {
             return Ok(Some(Came::Ended(Finished::Aborted)));
         }
         if self.read_or_ask(page)? {
             return Ok(Some(Came::There));
         }
-        self.go_on(rt, alloc, office, &Awaited::Page(page), station)
+        self.go_on(rt, alloc, office, &Awaited::Page(page), station, known)
     }
 
     /// Reads the page if its bytes and the hand's copy of it are here, and says whether it did.
@@ -217,6 +251,7 @@ impl<Q: Chooser> Worker<Q> {
     fn read_or_ask(&mut self, page: PageNo) -> Result<bool, WorkerFault>
         requires { self.old.said ≡ [] }
         ensures still { IsStill self.old self.new }
+        ensures hand { self.new.hand ≡ self.old.hand }
         ensures reads { IfOk result (λ read. MatchBool read (ReadsAtHand self.old page self.new)
             (AsksFor self.old page self.new)) }
         ensures refused { IfErr result (RefusesAsk self.new page) }
@@ -285,18 +320,20 @@ impl<Q: Chooser> Worker<Q> {
         ensures told { IsTold station.new }
         ensures refused { IfErr result (StopsOr self.new (RefusesCall self.new (CallWant page))) }
     {
-        let aborted = self.serve_first(rt, alloc, office, station)?;
+        let known = station.knows(&self.hand);
+        let aborted = self.serve_first(rt, alloc, office, station, known)?;
         if aborted {
             return Ok(Some(Came::Ended(Finished::Aborted)));
         }
         self.ask_to_write(page)?;
-        self.go_on(rt, alloc, office, &Awaited::Permission(page), station)
+        self.go_on(rt, alloc, office, &Awaited::Permission(page), station, known)
     }
 
     /// The client asks to write the page, and for the permission if it hasn't got it.
     fn ask_to_write(&mut self, page: PageNo) -> Result<(), WorkerFault>
         requires { self.old.said ≡ [] }
         ensures still { IsStill self.old self.new }
+        ensures hand { self.new.hand ≡ self.old.hand }
         ensures asks { OnOk result (AsksToWrite self.old page self.new) }
         ensures refused { IfErr result (RefusesCall self.new (CallWant page)) }
     {
@@ -342,11 +379,12 @@ impl<Q: Chooser> Worker<Q> {
         ensures told { IsTold station.new }
         ensures refused { IfErr result (RefusesDrop self.old self.new) }
     {
-        if self.serve_first(rt, alloc, office, station)? {
+        let known = station.knows(&self.hand);
+        if self.serve_first(rt, alloc, office, station, known)? {
             return Ok(());
         }
         self.drop_open(alloc)?;
-        self.hand_all_in(alloc, office, station)
+        self.hand_all_in(alloc, office, station, known)
     }
 
     /// The client drops its transaction. The frames that it sends are kept.
@@ -355,6 +393,7 @@ impl<Q: Chooser> Worker<Q> {
         ensures dropped { OnOk result (Ended self.new protocol.Dropped) }
         ensures says { OnOk result (SaysDrop self.old self.new) }
         ensures still { IsStill self.old self.new }
+        ensures hand { self.new.hand ≡ self.old.hand }
         ensures refused { IfErr result (RefusesToDrop self.new) }
     {
         let said = self.client.drop_txn(alloc)?;
@@ -368,7 +407,9 @@ impl<Q: Chooser> Worker<Q> {
         alloc: Global,
         office: &Office,
         station: &mut Station,
+        known: bool,
     ) -> Result<(), WorkerFault>
+        requires { IsKnown known station.old self.old.hand }
         ensures hands { HandsInAndTells self.old station.old result self.new station.new }
         ensures client { self.new.client ≡ self.old.client }
         ensures all { OnOk result (self.new.said ≡ []) }
@@ -377,13 +418,19 @@ impl<Q: Chooser> Worker<Q> {
         ensures sound { IsStation station.old }
         ensures refused { IfErr result (StopsAt HandsOne self.old self.new) }
     {
-        let handed = self.hand_kept_in(alloc, station);
+        let handed = self.hand_kept_in(alloc, station, known);
         office.tell(station);
         handed
     }
 
     /// Hands in all frames of the client, and takes nothing.
-    fn hand_kept_in(&mut self, alloc: Global, station: &mut Station) -> Result<(), WorkerFault>
+    fn hand_kept_in(
+        &mut self,
+        alloc: Global,
+        station: &mut Station,
+        known: bool,
+    ) -> Result<(), WorkerFault>
+        requires { IsKnown known station.old self.old.hand }
         ensures hands { HandsAllIn self.old station.old result self.new station.new }
         ensures client { self.new.client ≡ self.old.client }
         ensures all { OnOk result (self.new.said ≡ []) }
@@ -394,7 +441,7 @@ impl<Q: Chooser> Worker<Q> {
         // What holds of every station, its history says.
         let _known = station.history();
         while !self.said.is_empty() {
-            let _handed = self.hand_in(alloc, station)?;
+            let _handed = self.hand_in(alloc, station, known)?;
         }
         Ok(())
     }
@@ -452,15 +499,16 @@ impl<Q: Chooser> Worker<Q> {
         ensures told { IsTold station.new }
         ensures refused { IfErr result (StopsOr self.new (RefusesCommit self.new)) }
     {
-        self.serve_at(rt, alloc, office, station)?;
+        let known = station.knows(&self.hand);
+        self.serve_knowing(rt, alloc, office, station, known)?;
         if let Some(ended) = self.ended() {
             return Ok(Some(Came::Ended(ended)));
         }
         // What holds of every station, its history says.
         let _known = station.history();
-        let _number = self.commit_by(alloc, frame, station)?;
+        let _number = self.commit_by(alloc, frame, station, known)?;
         // Serving tells all who are to be told of the commit.
-        self.go_on(rt, alloc, office, &Awaited::End, station)
+        self.go_on(rt, alloc, office, &Awaited::End, station, known)
     }
 
     /// Waits, and serves meanwhile, until there is an answer. It returns at once if the step that
@@ -491,12 +539,14 @@ impl<Q: Chooser> Worker<Q> {
                 return answer;
             }
             station = office.wait_for_frame(rt, station, self.hand.client());
-            came = self.go_on(rt, alloc, office, awaited, &mut station);
+            let known = station.knows(&self.hand);
+            came = self.go_on(rt, alloc, office, awaited, &mut station, known);
         }
         unreachable!()
     }
 
-    /// Serves, and looks at what has come. `None` if nothing has.
+    /// Serves, told whether the station knows the hand, and looks at what has come. `None` if
+    /// nothing has.
     pub(super) fn go_on<R: Wait>(
         &mut self,
         rt: &R,
@@ -504,7 +554,9 @@ impl<Q: Chooser> Worker<Q> {
         office: &Office,
         awaited: &Awaited,
         station: &mut Station,
+        known: bool,
     ) -> Result<Option<Came>, WorkerFault>
+        requires { IsKnown known station.old self.old.hand }
         ensures comes { IfOk result (λ came. IfSome came (Comes awaited.now self.new)) }
         ensures served { OnOk result (IsServed self.new) }
         ensures still { IsStill self.old self.new }
@@ -512,7 +564,7 @@ impl<Q: Chooser> Worker<Q> {
         ensures told { IsTold station.new }
         ensures refused { IfErr result (StopsServing self.new) }
     {
-        self.serve_at(rt, alloc, office, station)?;
+        self.serve_knowing(rt, alloc, office, station, known)?;
         Ok(self.come(awaited))
     }
 

@@ -1,6 +1,6 @@
 //! A link whose server is in the test's own process. What the link writes is taken by the server at
-//! once, and what that says lies in the link's socket then. So no test rests on a schedule. A second
-//! client, `other`, talks to the server without a socket.
+//! once, and what that says lies in the link's socket then. So no test rests on a schedule. A
+//! second client, `other`, talks to the server without a socket.
 use rughvadi::{Client, Limits, Link, Server};
 use std::cell::RefCell;
 use std::io::{self, Read, Write};

@@ -5,7 +5,7 @@ use Rattle.cb_client.specs.declared.client_fault.ClientFault.{ClientFault}
 use Rattle.cb_handle.proofs.Taking.{client_taker, whole_fetched}
 use Rattle.cb_handle.proofs.polled_client.PolledClient.take.Goals as goal
 use Rattle.cb_handle.specs.Causes.{Decides, after_fetch, client_take_may, in_bytes}
-use Rattle.cb_handle.specs.declared.refusal.Refusal.TheVariants as refusal
+use Rattle.cb_handle.specs.declared.refusal.HandleRefusal.TheVariants as refusal
 use Rattle.cb_page.specs.Bounds.{AreInRange, Bounds}
 
 pub returns-in-Ok-clause-why : goal.returns-in-Ok-clause-why

@@ -4,7 +4,7 @@ use Rattle.std.specs.Prelude.{Err}
 use Rattle.cb_handle.proofs.Taking.{server_taker, whole_fetched}
 use Rattle.cb_handle.proofs.polled_server.PolledServer.take.Goals as goal
 use Rattle.cb_handle.specs.Causes.{Decides, after_fetch, in_bytes, server_take_may}
-use Rattle.cb_handle.specs.declared.refusal.Refusal.TheVariants as refusal
+use Rattle.cb_handle.specs.declared.refusal.HandleRefusal.TheVariants as refusal
 use Rattle.cb_page.specs.Bounds.{AreInRange, Bounds}
 use Rattle.cb_server.specs.declared.server_fault.ServerFault.{ServerFault}
 

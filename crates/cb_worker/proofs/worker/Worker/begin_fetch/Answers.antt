@@ -1,4 +1,6 @@
 -- Goals of `Worker::begin_fetch`.
+use Rattle.std.proofs.Common.{refl}
+use Rattle.cb_worker.proofs.Knowing.{same_known}
 use Rattle.cb_worker.proofs.Staying.{after}
 use Rattle.cb_worker.proofs.worker.Worker.begin_fetch.Goals as goal
 
@@ -11,3 +13,7 @@ returns-then-branch-clause-still g c = after c.args.self.now c.serve_first.new.s
 pub returns-clause-still : goal.returns-clause-still
 returns-clause-still g c =
     after c.args.self.now c.read_or_ask.new.self c.go_on.new.self (after c.args.self.now c.serve_first.new.self c.read_or_ask.new.self c.serve_first.ensures.still c.read_or_ask.ensures.still) c.go_on.ensures.still
+
+pub go_on-requires : goal.go_on-requires
+go_on-requires g c =
+    same_known _ c.serve_first.new.station c.serve_first.new.station c.serve_first.new.self.hand c.read_or_ask.new.self.hand refl c.read_or_ask.ensures.hand c.serve_first.ensures.known

@@ -1,5 +1,6 @@
 -- Goals of `Worker::begin_want`.
-use Rattle.std.proofs.Common.{IsTrue, rules}
+use Rattle.std.proofs.Common.{IsTrue, refl, rules}
+use Rattle.cb_worker.proofs.Knowing.{same_known}
 use Rattle.cb_worker.proofs.Staying.{after}
 use Rattle.cb_worker.proofs.Steps.{begun_at}
 use Rattle.cb_worker.proofs.Using.{asks_fixed, asks_used, wanted_over, wanted_so}
@@ -24,3 +25,7 @@ returns-in_err-ask_to_write-clause-still g c = after c.args.self.now c.serve_fir
 pub returns-clause-still : goal.returns-clause-still
 returns-clause-still g c =
     after c.args.self.now c.ask_to_write.new.self c.go_on.new.self (after c.args.self.now c.serve_first.new.self c.ask_to_write.new.self c.serve_first.ensures.still c.ask_to_write.ensures.still) c.go_on.ensures.still
+
+pub go_on-requires : goal.go_on-requires
+go_on-requires g c =
+    same_known _ c.serve_first.new.station c.serve_first.new.station c.serve_first.new.self.hand c.ask_to_write.new.self.hand refl c.ask_to_write.ensures.hand c.serve_first.ensures.known

@@ -9,43 +9,43 @@ use Rattle.cb_worker.proofs.worker.Worker.collect.Goals as goal
 
 pub returns-in-Ok-None : goal.returns-in-Ok-None
 returns-in-Ok-None g c =
-    let all : Collected c.args.station.now c.args.self.now.hand c.collect.result c.collect.new.self c.collect.new.hand = rw (← c.self.view_is) (record {
-      foreign = c.collect.ensures.foreign;
-      faults = c.collect.ensures.faults;
-      err = c.collect.ensures.err;
-      oldest = c.collect.ensures.oldest;
-      rest = c.collect.ensures.rest;
-      server = c.collect.ensures.server;
-      untold = c.collect.ensures.untold;
-      moved = c.collect.ensures.hand;
-      stored = c.collect.ensures.stored;
-      history = c.collect.ensures.history;
-      flags = c.collect.ensures.flags;
+    let all : Collected c.args.station.now c.args.self.now.hand c.collect_if_known.result c.collect_if_known.new.self c.collect_if_known.new.hand = rw (← c.self.view_is) (record {
+      foreign = c.collect_if_known.ensures.foreign;
+      faults = c.collect_if_known.ensures.faults;
+      err = c.collect_if_known.ensures.err;
+      oldest = c.collect_if_known.ensures.oldest;
+      rest = c.collect_if_known.ensures.rest;
+      server = c.collect_if_known.ensures.server;
+      untold = c.collect_if_known.ensures.untold;
+      moved = c.collect_if_known.ensures.hand;
+      stored = c.collect_if_known.ensures.stored;
+      history = c.collect_if_known.ensures.history;
+      flags = c.collect_if_known.ensures.flags;
     }) in
-    let is : c.collect.result ≡ Ok None = c.in-Ok-None.is ∙ ap Ok c.in-Ok-None.field-0-is in
-    let same : c.collect.new.hand ≡ c.self.inside.hand = rw c.in-Ok-None.field-0-is at c.in-Ok-None.ensures.hand in
+    let is : c.collect_if_known.result ≡ Ok None = c.in-Ok-None.is ∙ ap Ok c.in-Ok-None.field-0-is in
+    let same : c.collect_if_known.new.hand ≡ c.self.inside.hand = rw c.in-Ok-None.field-0-is at c.in-Ok-None.ensures.hand in
     record {
       answer = Ok None;
-      collected = subst (λ (r : Result (Option Frame) OfficeFault). Collected c.args.station.now c.args.self.now.hand r c.collect.new.self c.collect.new.hand) is all;
+      collected = subst (λ (r : Result (Option Frame) OfficeFault). Collected c.args.station.now c.args.self.now.hand r c.collect_if_known.new.self c.collect_if_known.new.hand) is all;
       taken = (refl, rw same c.self.view_is);
     }
 
 pub returns-in-Ok-Some : goal.returns-in-Ok-Some
 returns-in-Ok-Some g c =
-    let all : Collected c.args.station.now c.args.self.now.hand c.collect.result c.collect.new.self c.collect.new.hand = rw (← c.self.view_is) (record {
-      foreign = c.collect.ensures.foreign;
-      faults = c.collect.ensures.faults;
-      err = c.collect.ensures.err;
-      oldest = c.collect.ensures.oldest;
-      rest = c.collect.ensures.rest;
-      server = c.collect.ensures.server;
-      untold = c.collect.ensures.untold;
-      moved = c.collect.ensures.hand;
-      stored = c.collect.ensures.stored;
-      history = c.collect.ensures.history;
-      flags = c.collect.ensures.flags;
+    let all : Collected c.args.station.now c.args.self.now.hand c.collect_if_known.result c.collect_if_known.new.self c.collect_if_known.new.hand = rw (← c.self.view_is) (record {
+      foreign = c.collect_if_known.ensures.foreign;
+      faults = c.collect_if_known.ensures.faults;
+      err = c.collect_if_known.ensures.err;
+      oldest = c.collect_if_known.ensures.oldest;
+      rest = c.collect_if_known.ensures.rest;
+      server = c.collect_if_known.ensures.server;
+      untold = c.collect_if_known.ensures.untold;
+      moved = c.collect_if_known.ensures.hand;
+      stored = c.collect_if_known.ensures.stored;
+      history = c.collect_if_known.ensures.history;
+      flags = c.collect_if_known.ensures.flags;
     }) in
-    let is : c.collect.result ≡ Ok (Some c.in-Ok-Some.frame) = c.in-Ok-Some.is ∙ ap Ok c.in-Ok-Some.field-0-is in
-    collects_some c.args.self.now c.take_collected.new.self c.args.station.now c.collect.new.self c.collect.new.hand c.in-Ok-Some.frame c.take_collected.result
-    (subst (λ (r : Result (Option Frame) OfficeFault). Collected c.args.station.now c.args.self.now.hand r c.collect.new.self c.collect.new.hand) is all)
+    let is : c.collect_if_known.result ≡ Ok (Some c.in-Ok-Some.frame) = c.in-Ok-Some.is ∙ ap Ok c.in-Ok-Some.field-0-is in
+    collects_some c.args.self.now c.take_collected.new.self c.args.station.now c.collect_if_known.new.self c.collect_if_known.new.hand c.in-Ok-Some.frame c.take_collected.result
+    (subst (λ (r : Result (Option Frame) OfficeFault). Collected c.args.station.now c.args.self.now.hand r c.collect_if_known.new.self c.collect_if_known.new.hand) is all)
     (rw (← c.self.view_is) c.take_collected.ensures)

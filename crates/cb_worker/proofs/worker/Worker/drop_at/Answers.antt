@@ -1,6 +1,7 @@
 -- Goals of `Worker::drop_at`.
-use Rattle.std.proofs.Common.{IsTrue, inr, rules}
+use Rattle.std.proofs.Common.{IsTrue, inr, refl, rules}
 use Rattle.cb_worker.proofs.Dropping.{is_dropped, kept}
+use Rattle.cb_worker.proofs.Knowing.{same_known}
 use Rattle.cb_worker.proofs.Staying.{after}
 use Rattle.cb_worker.proofs.worker.Worker.drop_at.Goals as goal
 
@@ -24,3 +25,7 @@ returns-in_err-drop_open-clause-still g c = after c.args.self.now c.serve_first.
 pub returns-clause-still : goal.returns-clause-still
 returns-clause-still g c =
     after c.args.self.now c.drop_open.new.self c.hand_all_in.new.self (after c.args.self.now c.serve_first.new.self c.drop_open.new.self c.serve_first.ensures.still c.drop_open.ensures.still) c.hand_all_in.ensures.still
+
+pub hand_all_in-requires : goal.hand_all_in-requires
+hand_all_in-requires g c =
+    same_known _ c.serve_first.new.station c.serve_first.new.station c.serve_first.new.self.hand c.drop_open.new.self.hand refl c.drop_open.ensures.hand c.serve_first.ensures.known

@@ -9,48 +9,48 @@ use Rattle.cb_worker.proofs.worker.Worker.hand_frame_in.Goals as goal
 
 pub returns-in-Ok-clause-hands : goal.returns-in-Ok-clause-hands
 returns-in-Ok-clause-hands g c =
-    let all : Committed c.args.station.now c.args.frame c.locked-reads.result.now c.args.self.now.hand (answer_of c.commit_owned.result) c.commit_owned.new.self c.commit_owned.new.hand = rw (← c.self.view_is) (commits_owned c.args.station.now c.args.frame c.locked-reads.result.now _ c.commit_owned.result c.commit_owned.new.self c.commit_owned.new.hand
-    c.commit_owned.ensures.foreign
-    c.commit_owned.ensures.not_held
-    c.commit_owned.ensures.not_live
-    c.commit_owned.ensures.exhausted
-    c.commit_owned.ensures.faults
-    c.commit_owned.ensures.err
-    c.commit_owned.ensures.number
-    c.commit_owned.ensures.entry
-    c.commit_owned.ensures.posts
-    c.commit_owned.ensures.applied
-    c.commit_owned.ensures.hand
-    c.commit_owned.ensures.stored
-    c.commit_owned.ensures.flags
+    let all : Committed c.args.station.now c.args.frame c.locked-reads.result.now c.args.self.now.hand (answer_of c.commit_if_known.result) c.commit_if_known.new.self c.commit_if_known.new.hand = rw (← c.self.view_is) (commits_owned c.args.station.now c.args.frame c.locked-reads.result.now _ c.commit_if_known.result c.commit_if_known.new.self c.commit_if_known.new.hand
+    c.commit_if_known.ensures.foreign
+    c.commit_if_known.ensures.not_held
+    c.commit_if_known.ensures.not_live
+    c.commit_if_known.ensures.exhausted
+    c.commit_if_known.ensures.faults
+    c.commit_if_known.ensures.err
+    c.commit_if_known.ensures.number
+    c.commit_if_known.ensures.entry
+    c.commit_if_known.ensures.posts
+    c.commit_if_known.ensures.applied
+    c.commit_if_known.ensures.hand
+    c.commit_if_known.ensures.stored
+    c.commit_if_known.ensures.flags
     ) in
     record {
       reads = c.locked-reads.result.now;
       locked = rw (← c.self.view_is) c.locked-reads.ensures;
-      committed = subst (λ (r : Result ℕ (OfficeFault × Frame)). Committed c.args.station.now c.args.frame c.locked-reads.result.now c.args.self.now.hand (answer_of r) c.commit_owned.new.self c.commit_owned.new.hand) c.in-Ok.is all;
+      committed = subst (λ (r : Result ℕ (OfficeFault × Frame)). Committed c.args.station.now c.args.frame c.locked-reads.result.now c.args.self.now.hand (answer_of r) c.commit_if_known.new.self c.commit_if_known.new.hand) c.in-Ok.is all;
       rest = rw (← c.self.view_is) refl;
     }
 
 pub returns-clause-hands : goal.returns-clause-hands
 returns-clause-hands g c =
-    let all : Committed c.args.station.now c.args.frame c.locked-reads.result.now c.args.self.now.hand (answer_of c.commit_owned.result) c.commit_owned.new.self c.commit_owned.new.hand = rw (← c.self.view_is) (commits_owned c.args.station.now c.args.frame c.locked-reads.result.now _ c.commit_owned.result c.commit_owned.new.self c.commit_owned.new.hand
-    c.commit_owned.ensures.foreign
-    c.commit_owned.ensures.not_held
-    c.commit_owned.ensures.not_live
-    c.commit_owned.ensures.exhausted
-    c.commit_owned.ensures.faults
-    c.commit_owned.ensures.err
-    c.commit_owned.ensures.number
-    c.commit_owned.ensures.entry
-    c.commit_owned.ensures.posts
-    c.commit_owned.ensures.applied
-    c.commit_owned.ensures.hand
-    c.commit_owned.ensures.stored
-    c.commit_owned.ensures.flags
+    let all : Committed c.args.station.now c.args.frame c.locked-reads.result.now c.args.self.now.hand (answer_of c.commit_if_known.result) c.commit_if_known.new.self c.commit_if_known.new.hand = rw (← c.self.view_is) (commits_owned c.args.station.now c.args.frame c.locked-reads.result.now _ c.commit_if_known.result c.commit_if_known.new.self c.commit_if_known.new.hand
+    c.commit_if_known.ensures.foreign
+    c.commit_if_known.ensures.not_held
+    c.commit_if_known.ensures.not_live
+    c.commit_if_known.ensures.exhausted
+    c.commit_if_known.ensures.faults
+    c.commit_if_known.ensures.err
+    c.commit_if_known.ensures.number
+    c.commit_if_known.ensures.entry
+    c.commit_if_known.ensures.posts
+    c.commit_if_known.ensures.applied
+    c.commit_if_known.ensures.hand
+    c.commit_if_known.ensures.stored
+    c.commit_if_known.ensures.flags
     ) in
     rw c.fault_of.ensures (record {
       reads = c.locked-reads.result.now;
       locked = rw (← c.self.view_is) c.locked-reads.ensures;
-      committed = subst (λ (r : Result ℕ (OfficeFault × Frame)). Committed c.args.station.now c.args.frame c.locked-reads.result.now c.args.self.now.hand (answer_of r) c.commit_owned.new.self c.commit_owned.new.hand) c.in-Err.is all;
+      committed = subst (λ (r : Result ℕ (OfficeFault × Frame)). Committed c.args.station.now c.args.frame c.locked-reads.result.now c.args.self.now.hand (answer_of r) c.commit_if_known.new.self c.commit_if_known.new.hand) c.in-Err.is all;
       rest = rw (← c.self.view_is) refl;
     })

@@ -11,50 +11,50 @@ use Rattle.cb_worker.proofs.worker.Worker.hand_in.Goals as goal
 
 pub returns-in-Err-clause-turns : goal.returns-in-Err-clause-turns
 returns-in-Err-clause-turns g c =
-    let took : Took c.args.station.now c.in-Some.frame.now c.args.self.now.hand c.take.result c.take.new.self c.take.new.hand = rw (← c.self.view_is) (record {
-      foreign = c.take.ensures.foreign;
-      exhausted = c.take.ensures.exhausted;
-      faults = c.take.ensures.faults;
-      err = c.take.ensures.err;
-      stray = c.take.ensures.stray;
-      posts = c.take.ensures.posts;
-      taken = c.take.ensures.taken;
-      moved = c.take.ensures.hand;
-      stored = c.take.ensures.stored;
-      history = c.take.ensures.history;
-      flags = c.take.ensures.flags;
+    let took : Took c.args.station.now c.in-Some.frame.now c.args.self.now.hand c.take_if_known.result c.take_if_known.new.self c.take_if_known.new.hand = rw (← c.self.view_is) (record {
+      foreign = c.take_if_known.ensures.foreign;
+      exhausted = c.take_if_known.ensures.exhausted;
+      faults = c.take_if_known.ensures.faults;
+      err = c.take_if_known.ensures.err;
+      stray = c.take_if_known.ensures.stray;
+      posts = c.take_if_known.ensures.posts;
+      taken = c.take_if_known.ensures.taken;
+      moved = c.take_if_known.ensures.hand;
+      stored = c.take_if_known.ensures.stored;
+      history = c.take_if_known.ensures.history;
+      flags = c.take_if_known.ensures.flags;
     }) in
     let first : c.args.self.now.said ≡ c.in-Some.frame.now ∷ drop 1 c.args.self.now.said = rw (← c.self.view_is) (oldest_first c.self.inside.said c.in-Some.frame.now (ap option_copied (sym c.in-Some.is) ∙ c.oldest.ensures)) in
-    hands_in c.args.self.now _ c.args.station.now c.take.new.self c.in-Some.frame.now (drop 1 c.args.self.now.said) (Err (worker.Office c.in-Err.fault)) first (record {
+    hands_in c.args.self.now _ c.args.station.now c.take_if_known.new.self c.in-Some.frame.now (drop 1 c.args.self.now.said) (Err (worker.Office c.in-Err.fault)) first (record {
       answer = Err c.in-Err.fault;
       answered = refl;
-      took = subst (λ (r : Result ⊤ OfficeFault). Took c.args.station.now c.in-Some.frame.now c.args.self.now.hand r c.take.new.self c.take.new.hand) c.in-Err.is took;
+      took = subst (λ (r : Result ⊤ OfficeFault). Took c.args.station.now c.in-Some.frame.now c.args.self.now.hand r c.take_if_known.new.self c.take_if_known.new.hand) c.in-Err.is took;
       left = rw c.in-Err.ensures.err.1 c.self.view_is;
     })
 
 pub returns-in-Ok-clause-turns : goal.returns-in-Ok-clause-turns
 returns-in-Ok-clause-turns g c =
-    let took : Took c.args.station.now c.in-Some.frame.now c.args.self.now.hand c.take.result c.take.new.self c.take.new.hand = rw (← c.self.view_is) (record {
-      foreign = c.take.ensures.foreign;
-      exhausted = c.take.ensures.exhausted;
-      faults = c.take.ensures.faults;
-      err = c.take.ensures.err;
-      stray = c.take.ensures.stray;
-      posts = c.take.ensures.posts;
-      taken = c.take.ensures.taken;
-      moved = c.take.ensures.hand;
-      stored = c.take.ensures.stored;
-      history = c.take.ensures.history;
-      flags = c.take.ensures.flags;
+    let took : Took c.args.station.now c.in-Some.frame.now c.args.self.now.hand c.take_if_known.result c.take_if_known.new.self c.take_if_known.new.hand = rw (← c.self.view_is) (record {
+      foreign = c.take_if_known.ensures.foreign;
+      exhausted = c.take_if_known.ensures.exhausted;
+      faults = c.take_if_known.ensures.faults;
+      err = c.take_if_known.ensures.err;
+      stray = c.take_if_known.ensures.stray;
+      posts = c.take_if_known.ensures.posts;
+      taken = c.take_if_known.ensures.taken;
+      moved = c.take_if_known.ensures.hand;
+      stored = c.take_if_known.ensures.stored;
+      history = c.take_if_known.ensures.history;
+      flags = c.take_if_known.ensures.flags;
     }) in
     let first : c.args.self.now.said ≡ c.in-Some.frame.now ∷ c.remove_oldest.new.self = rw (c.remove_oldest.ensures, ← c.self.view_is) (oldest_first c.self.inside.said c.in-Some.frame.now (ap option_copied (sym c.in-Some.is) ∙ c.oldest.ensures)) in
-    hands_in c.args.self.now _ c.args.station.now c.take.new.self c.in-Some.frame.now c.remove_oldest.new.self (Ok true) first (record {
+    hands_in c.args.self.now _ c.args.station.now c.take_if_known.new.self c.in-Some.frame.now c.remove_oldest.new.self (Ok true) first (record {
       answer = Ok c.in-Ok.field-0;
       answered = refl;
-      took = subst (λ (r : Result ⊤ OfficeFault). Took c.args.station.now c.in-Some.frame.now c.args.self.now.hand r c.take.new.self c.take.new.hand) c.in-Ok.is took;
+      took = subst (λ (r : Result ⊤ OfficeFault). Took c.args.station.now c.in-Some.frame.now c.args.self.now.hand r c.take_if_known.new.self c.take_if_known.new.hand) c.in-Ok.is took;
       left = rw (← c.self.view_is) refl;
     })
 
 pub unreachable-requires : goal.unreachable-requires
 unreachable-requires g c =
-    c.requires (rw (← c.self.view_is) (none_first c.self.inside.said (ap option_copied (sym c.in_default.is) ∙ c.oldest.ensures)))
+    c.requires.said (rw (← c.self.view_is) (none_first c.self.inside.said (ap option_copied (sym c.in_default.is) ∙ c.oldest.ensures)))

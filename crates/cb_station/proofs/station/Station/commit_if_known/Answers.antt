@@ -1,4 +1,4 @@
--- Goals of `Station::commit_owned`.
+-- Goals of `Station::commit_if_known`.
 use Rattle.std.proofs.Common.{◌++◌, ◌∷◌, [], List, refl, sym, ap, ◌∙◌, subst}
 use Rattle.cb_frame.specs.Grammar.{Fits}
 use Rattle.cb_hands.specs.Joined.{Follow, IsHeld}
@@ -15,7 +15,7 @@ use Rattle.cb_station.proofs.Telling.{noted_flags, with_flags}
 use Rattle.cb_station.specs.Commits.{AllowsCommit, txn_of, writes_of}
 use Rattle.cb_station.specs.Stations.{StationState, mailbox_of, server_of}
 use Rattle.cb_station.proofs.Holding.{holds_unchanged}
-use Rattle.cb_station.proofs.station.Station.commit_owned.Goals as goal
+use Rattle.cb_station.proofs.station.Station.commit_if_known.Goals as goal
 
 pub returns-in-Err-clause-foreign : goal.returns-in-Err-clause-foreign
 returns-in-Err-clause-foreign c =

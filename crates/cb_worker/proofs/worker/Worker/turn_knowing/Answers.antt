@@ -1,7 +1,7 @@
--- Goals of `Worker::turn_at`.
+-- Goals of `Worker::turn_knowing`.
 use Rattle.std.proofs.Common.{◌≡◌, [], None, arith, rules}
 use Rattle.std.proofs.lemmas.Grind.{common_steps}
-use Rattle.cb_worker.proofs.worker.Worker.turn_at.Goals as goal
+use Rattle.cb_worker.proofs.worker.Worker.turn_knowing.Goals as goal
 
 pub returns : goal.returns
 returns g c =

@@ -1,4 +1,4 @@
--- Goals of `Station::collect`.
+-- Goals of `Station::collect_if_known`.
 use Rattle.std.proofs.Common.{rules, ◌≡◌, ℕ, Option, Some, None, refl, sym, ap, ◌∙◌, subst}
 use Rattle.cb_station.proofs.Calls.{collected_stored, hand_station, received_by, store_pages}
 use Rattle.cb_station.proofs.Stations.{unchanged_station}
@@ -17,7 +17,7 @@ use Rattle.cb_mailboxes.specs.Mail.{IsMailFor}
 use Rattle.cb_station.proofs.Bringing.{brings}
 use Rattle.cb_station.specs.Copies.{BringsCopy}
 use Rattle.cb_station.proofs.Holding.{holds_collected, holds_unchanged}
-use Rattle.cb_station.proofs.station.Station.collect.Goals as goal
+use Rattle.cb_station.proofs.station.Station.collect_if_known.Goals as goal
 
 pub invariant_of-self : goal.invariant_of-self
 invariant_of-self c = (
@@ -28,7 +28,7 @@ invariant_of-self c = (
 
 pub invariant_of-self-in_default : goal.invariant_of-self-in_default
 invariant_of-self-in_default c =
-    let held : IsHeld c.self.inside.hands c.args.hand.now = search rules in
+    let held : IsHeld c.self.inside.hands c.args.hand.now = subst (λ (v : StationState). IsHeld v.hands c.args.hand.now) (sym c.self.view_is) (c.requires.known.0 (search rules)) in
     let stored = c.self.invariant.0.hand c.args.hand.now.client c.args.hand.now held in (
       hand_station (record { dispatcher = c.self.inside.dispatcher; hands = c.self.inside.hands; history = c.self.inside.history.items; flags = c.self.inside.flags }) (record { dispatcher = c.collect.new.self; hands = c.self.inside.hands; history = c.self.inside.history.items; flags = c.self.inside.flags }) c.args.hand.now c.args.hand.now c.self.invariant.0 c.collect.ensures.server refl refl held (follow_same c.self.inside.hands c.args.hand.now held) stored,
       c.self.invariant.1 ∙ sym (ap (λ (x : ServerValue). (commits_of x).forgotten) c.collect.ensures.server),
@@ -37,13 +37,13 @@ invariant_of-self-in_default c =
 
 pub take_in-requires-clause-pages : goal.take_in-requires-clause-pages
 take_in-requires-clause-pages c =
-    let held : IsHeld c.self.inside.hands c.args.hand.now = search rules in
+    let held : IsHeld c.self.inside.hands c.args.hand.now = subst (λ (v : StationState). IsHeld v.hands c.args.hand.now) (sym c.self.view_is) (c.requires.known.0 (search rules)) in
     let state : c.state-state.result.now ≡ c.self.inside.dispatcher.server.state = c.state-state.ensures.value ∙ ap (λ (x : ServerValue). x.state) (c.server.ensures.value ∙ c.collect.ensures.server) in
     store_pages (record { dispatcher = c.self.inside.dispatcher; hands = c.self.inside.hands; history = c.self.inside.history.items; flags = c.self.inside.flags }) c.args.hand.now c.state-state.result.now c.self.invariant.0 held state
 
 pub invariant_of-self-2 : goal.invariant_of-self-2
 invariant_of-self-2 c =
-    let held : IsHeld c.self.inside.hands c.args.hand.now = search rules in
+    let held : IsHeld c.self.inside.hands c.args.hand.now = subst (λ (v : StationState). IsHeld v.hands c.args.hand.now) (sym c.self.view_is) (c.requires.known.0 (search rules)) in
     let stored = c.self.invariant.0.hand c.args.hand.now.client c.args.hand.now held in
     let state : c.state-state.result.now ≡ c.self.inside.dispatcher.server.state = c.state-state.ensures.value ∙ ap (λ (x : ServerValue). x.state) (c.server.ensures.value ∙ c.collect.ensures.server) in
     let other : c.take_in.new.hand ≡ collected (server_of (record { dispatcher = c.self.inside.dispatcher; hands = c.self.inside.hands; history = c.self.inside.history.items; flags = c.self.inside.flags })) c.args.hand.now (Some c.in-Some.frame) =
@@ -68,7 +68,7 @@ returns-clause-sent c =
 
 pub returns-clause-brings : goal.returns-clause-brings
 returns-clause-brings c =
-    let held : IsHeld c.self.inside.hands c.args.hand.now = search rules in
+    let held : IsHeld c.self.inside.hands c.args.hand.now = subst (λ (v : StationState). IsHeld v.hands c.args.hand.now) (sym c.self.view_is) (c.requires.known.0 (search rules)) in
     let sent : IsMailFor (dispatching.server_of c.self.inside.dispatcher) c.args.hand.now.client c.in-Some.frame = subst (λ (k : ℕ). IsMailFor (dispatching.server_of c.self.inside.dispatcher) k c.in-Some.frame) c.client.ensures
     (subst (λ (o : Option Frame). IfSome o (IsMailFor (dispatching.server_of c.self.inside.dispatcher) c.client.result)) c.in-Some.is c.in_ok-frame.ensures.sent) in
     let state : c.state-state.result.now ≡ c.self.inside.dispatcher.server.state = c.state-state.ensures.value ∙ ap (λ (x : ServerValue). x.state) (c.server.ensures.value ∙ c.collect.ensures.server) in

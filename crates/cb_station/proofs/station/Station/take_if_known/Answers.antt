@@ -1,4 +1,4 @@
--- Goals of `Station::take`.
+-- Goals of `Station::take_if_known`.
 use Rattle.std.proofs.Common.{rules, ◌≡◌, true, false, refl, sym, ap, ◌∙◌, subst}
 use Rattle.cb_station.proofs.Calls.{ended_by, same_client, takes_station}
 use Rattle.cb_station.proofs.Stations.{unchanged_station}
@@ -11,7 +11,7 @@ use Rattle.cb_server.specs.ServerValue.{ServerValue}
 use Rattle.cb_station.specs.Moves.{IsOwn, ended_if_over, given_back, is_plain, is_stray}
 use Rattle.cb_station.proofs.Remembering.{still_forgotten}
 use Rattle.cb_station.proofs.Holding.{holds_taken, holds_unchanged}
-use Rattle.cb_station.proofs.station.Station.take.Goals as goal
+use Rattle.cb_station.proofs.station.Station.take_if_known.Goals as goal
 
 pub invariant_of-self : goal.invariant_of-self
 invariant_of-self c = (
