@@ -1,5 +1,5 @@
 -- Goals of `Worker::enter_again_at`.
-use Rattle.std.proofs.Common.{◌≡◌, ℕ, Result, Ok, Err, rules, subst}
+use Rattle.std.proofs.Common.{◌≡◌, Result, Ok, rules, subst}
 use Rattle.std.specs.Prelude.{⊤}
 use Rattle.cb_worker.proofs.Admitting.{asked_again, by_asking_again}
 use Rattle.cb_worker.specs.Serving.{ServesAndTells}

@@ -1,5 +1,5 @@
 -- Goals of `Worker::enter_at`.
-use Rattle.std.proofs.Common.{◌≡◌, ℕ, Result, Ok, Err, rules, subst}
+use Rattle.std.proofs.Common.{◌≡◌, ℕ, Result, Ok, rules, subst}
 use Rattle.std.specs.Prelude.{⊤}
 use Rattle.cb_worker.proofs.Admitting.{asked, by_asking}
 use Rattle.cb_worker.specs.Admitting.{StopsAndTells}
