@@ -5,6 +5,7 @@ use Rattle.cb_protocol.specs.Flush.{next_batch}
 use Rattle.cb_station.specs.Flags.{is_over}
 use Rattle.cb_station.specs.Stations.{IsStation, StationState, server_of}
 use Rattle.cb_worker.specs.Entering.{LeavesSome}
+use Rattle.cb_worker.specs.Leaving.{Place}
 
 -- Nothing is left to write: every commit is on disk.
 abbrev pub IsWritten : StationState → Type 0
@@ -17,17 +18,13 @@ pub record IsOver (station : StationState) : Type 0 where
   pub over : is_over station.flags ≡ true
   pub written : IsWritten station
 
--- where a value lies that is lent; while it is lent no other one lies there
-abbrev pub Place : Type 0
-Place = ℕ × ℕ
-
 -- At which office a run was over, and whether it was cut off then: the station was halted, or calls
 -- of `work` were still to end.
 pub record OverState : Type 0 where
   pub office : Place
   pub cut_off : Bool
 
--- some worker's hand left some station of which all holds that always does, as `leave` says it;
--- neither which worker nor which station is named
-abbrev pub HasLeft : Type 0
-HasLeft = (hand : HandState) × LeavesSome hand (Ok tt)
+-- a hand of that client left some station of which all holds that always does, as `leave` says it;
+-- which station that was isn't named
+abbrev pub HasLeft : (client : ℕ) → Type 0
+HasLeft client = (hand : HandState) × (hand.client ≡ client) × LeavesSome hand (Ok tt)

@@ -13,7 +13,8 @@ use Rattle.cb_run.specs.declared.flusher.CountedStop.{CountedStop}
 use Rattle.cb_run.specs.declared.flusher.FlushStop.{FlushStop}
 use Rattle.cb_run.specs.declared.over.Next.{Next}
 use Rattle.cb_run.specs.declared.over.Next.TheVariants as next
-use Rattle.cb_run.specs.Ends.{IsOver, Place}
+use Rattle.cb_run.specs.Ends.{IsOver}
+use Rattle.cb_worker.specs.Leaving.{Place}
 
 -- There was no memory for a batch; or one is still to be written, of which the shape is blamed
 -- exactly where it isn't that of the tables.

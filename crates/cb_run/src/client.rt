@@ -1,13 +1,14 @@
 //! One client's part of a run.
 ghost use Rattle.std.specs.Prelude.{◌≡◌, IfOk};
-ghost use Rattle.cb_run.specs.Parts.{IsEndOf, end_of_part};
+ghost use Rattle.cb_run.specs.Parts.{EndsHalted, EndsPart, IsEndOf};
 ghost use Rattle.cb_run.specs.Runs.{of_client};
 
 use crate::faults::of_worker;
+use crate::halted::halted_at;
 use crate::parts::{PartEnd, Parts};
 use crate::results::Results;
 use crate::run::Run;
-use crate::working::work_and_leave;
+use crate::working::work;
 use crate::{EarlyEnding, Gate, Noted};
 use cb_client::ClientFault;
 use cb_page::{ClientNo, Limits};
@@ -51,35 +52,52 @@ pub(crate) fn give_up<R: Wait, N: Drop>(
 }
 
 /// How a client's part of a run ended whose work was answered so. A fault is noted, and the office
-/// halted; a client that was halted says nothing of why.
-fn end_part<R: Wait, N: Drop>(
+/// halted. A client that was halted says nothing of why.
+fn end_part<'a, R: Wait, N: Drop>(
     rt: &R,
-    office: &Office,
+    office: &'a Office,
     parts: &Mutex<Parts<N>>,
     client: u16,
-    worked: Result<Left, WorkerFault>,
-) -> PartEnd<N>
-    ensures { result ≡ end_of_part client worked }
+    worked: Result<Left<'a>, WorkerFault>,
+) -> PartEnd<'a, N>
+    ensures { EndsPart office.entry.ref_ptr client worked.entry result }
 {
     match worked {
         Ok(left) => PartEnd::Left(left),
         Err(fault) => match of_worker(fault) {
             Some(ending) => PartEnd::Noted(give_up(rt, office, parts, client, ending)),
-            None => PartEnd::Halted,
+            None => end_halted(rt, office, parts, client),
         },
     }
 }
 
+/// How the part ended of a client that was answered Halted. If the office isn't halted, that answer
+/// is a worker's fault.
+fn end_halted<'a, R: Wait, N: Drop>(
+    rt: &R,
+    office: &'a Office,
+    parts: &Mutex<Parts<N>>,
+    client: u16,
+) -> PartEnd<'a, N>
+    ensures { EndsHalted office.entry.ref_ptr client result }
+{
+    let halted = halted_at(office, &office.lock(rt));
+    match halted {
+        Some(halted) => PartEnd::Halted(halted),
+        None => PartEnd::Noted(give_up(rt, office, parts, client, EarlyEnding::Worker)),
+    }
+}
+
 /// A client joins and works, and leaves; where it can't go on the office is halted.
-fn run_client<Q: Chooser, R: Wait + Clock, G: Gate, N: Drop>(
-    run: Run<'_, R, G>,
+fn run_client<'a, Q: Chooser, R: Wait + Clock, G: Gate, N: Drop>(
+    run: Run<'a, R, G>,
     limits: &Limits,
     client: u16,
     jobs: &Receiver<u64>,
     results: &Results,
     parts: &Mutex<Parts<N>>,
-) -> PartEnd<N>
-    ensures { IsEndOf client result }
+) -> PartEnd<'a, N>
+    ensures { IsEndOf run.entry.office.ref_ptr client result }
 {
     let worked = join_and_work::<Q, R, G>(run, limits, client, jobs, results);
     end_part(run.rt, run.office, parts, client, worked)
@@ -100,14 +118,15 @@ pub(crate) fn run_part<Q: Chooser, R: Wait + Clock, G: Gate, N: Drop>(
 
 /// A client joins and works, and leaves. Where it can't join, its call of `work` is no more
 /// expected.
-fn join_and_work<Q: Chooser, R: Wait + Clock, G: Gate>(
-    run: Run<'_, R, G>,
+fn join_and_work<'a, Q: Chooser, R: Wait + Clock, G: Gate>(
+    run: Run<'a, R, G>,
     limits: &Limits,
     client: u16,
     jobs: &Receiver<u64>,
     results: &Results,
-) -> Result<Left, WorkerFault>
-    ensures { IfOk result (λ left. left ≡ client) }
+) -> Result<Left<'a>, WorkerFault>
+    ensures office { IfOk result (λ left. left.office ≡ run.entry.office.ref_ptr) }
+    ensures client { IfOk result (λ left. left.client ≡ client) }
 {
     let Run {
         rt,
@@ -116,7 +135,7 @@ fn join_and_work<Q: Chooser, R: Wait + Clock, G: Gate>(
         gate,
     } = run;
     match join::<Q, R>(rt, alloc, office, limits, client) {
-        Ok(worker) => work_and_leave(rt, alloc, office, worker, jobs, results, gate),
+        Ok(worker) => work(rt, alloc, office, worker, jobs, results, gate),
         Err(fault) => {
             office.skip_work(rt);
             Err(fault)

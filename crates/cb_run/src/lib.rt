@@ -26,6 +26,7 @@ mod ending;
 mod faults;
 mod flusher;
 mod gate;
+mod halted;
 mod job;
 mod loops;
 mod over;

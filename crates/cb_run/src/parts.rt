@@ -5,6 +5,7 @@ ghost use Rattle.cb_run.specs.Parts.{quiet_parts};
 ghost use Rattle.cb_run.specs.Runs.{ending_of_run, of_client};
 
 use crate::faults::of_run;
+use crate::halted::WasHalted;
 use crate::over::Over;
 use crate::{EarlyEnding, FirstEnding, Noted};
 use cb_shelf::ShelfFault;
@@ -13,13 +14,13 @@ use std::marker::Model;
 
 /// How a client's part of the run of this name ended. It can't be copied or let go:
 /// [`Parts::take`] alone takes one.
-pub(crate) enum PartEnd<N> {
+pub(crate) enum PartEnd<'a, N> {
     /// The client left the office.
-    Left(Left),
+    Left(Left<'a>),
     /// It faulted, and that was noted.
     Noted(Noted<N>),
-    /// It was halted, and says nothing of why.
-    Halted,
+    /// The office was halted, and it says nothing of why.
+    Halted(WasHalted<'a>),
 }
 
 /// How the clients' parts of a run ended so far: the ending of the lowest client that told of one,
@@ -53,16 +54,16 @@ impl<N> Parts<N> {
     }
 
     /// Takes how a part ended. One that had nothing to tell is counted, and no other.
-    pub(crate) fn take(&mut self, end: PartEnd<N>)
+    pub(crate) fn take(&mut self, end: PartEnd<'_, N>)
     where
         N: Drop,
-        ensures quiet { self.new.quiet ≤ self.old.quiet + quiet_parts end }
+        ensures quiet { self.new.quiet ≤ self.old.quiet + quiet_parts end.entry }
         ensures faults { self.new.faults ≡ self.old.faults }
     {
         match end {
             PartEnd::Noted(_) => {}
             PartEnd::Left(_) => self.quiet = self.quiet.saturating_add(1),
-            PartEnd::Halted => self.quiet = self.quiet.saturating_add(1),
+            PartEnd::Halted(_) => self.quiet = self.quiet.saturating_add(1),
         }
     }
 

@@ -21,42 +21,25 @@ use std::time::{Clock, Duration};
 const MOMENT: u64 = 1;
 
 /// Takes each job from the channel, and sends a result for each once it is on disk. If no job is
-/// left, the worker leaves; after a fault it is abandoned. Whatever happened, the office is told
-/// that one call of `work` has ended.
+/// left, the worker leaves this office, as the answer says; after a fault it is abandoned. Whatever
+/// happened, the office is told that one call of `work` has ended.
 ///
 /// Where a client can't join, [`Office::skip_work`] is called in place of this.
 ///
 /// In an office that is closed already it takes no job, and the worker leaves. An office that is
 /// closed meanwhile waits for this call, which does all its jobs; the flusher writes them.
-pub fn work<R: Wait + Clock, Q: Chooser, G: Gate>(
+pub fn work<'a, R: Wait + Clock, Q: Chooser, G: Gate>(
     rt: &R,
     alloc: Global,
-    office: &Office,
-    worker: Worker<Q>,
-    jobs: &Receiver<u64>,
-    results: &Results,
-    gate: &G,
-) -> Result<(), WorkerFault>
-    ensures left { OnOk result HasLeft }
-{
-    match work_and_leave(rt, alloc, office, worker, jobs, results, gate) {
-        Ok(_) => Ok(()),
-        Err(fault) => Err(fault),
-    }
-}
-
-/// As [`work`]; who is answered Ok holds that the worker's client left.
-pub(crate) fn work_and_leave<R: Wait + Clock, Q: Chooser, G: Gate>(
-    rt: &R,
-    alloc: Global,
-    office: &Office,
+    office: &'a Office,
     mut worker: Worker<Q>,
     jobs: &Receiver<u64>,
     results: &Results,
     gate: &G,
-) -> Result<Left, WorkerFault>
-    ensures left { OnOk result HasLeft }
-    ensures client { IfOk result (λ left. left ≡ worker.hand.client) }
+) -> Result<Left<'a>, WorkerFault>
+    ensures office { IfOk result (λ left. left.office ≡ office.entry.ref_ptr) }
+    ensures client { IfOk result (λ left. left.client ≡ worker.hand.client) }
+    ensures left { IfOk result (λ left. HasLeft left.client) }
 {
     let run = Run {
         rt,
@@ -76,9 +59,12 @@ pub(crate) fn work_and_leave<R: Wait + Clock, Q: Chooser, G: Gate>(
 
 /// What was answered, unless it is that another client left. No clause of a job says that the
 /// worker stays its client's, so that is looked at.
-fn of_client(client: ClientNo, ended: Result<Left, WorkerFault>) -> Result<Left, WorkerFault>
-    ensures same { OnOk result (result ≡ ended) }
-    ensures client { IfOk result (λ left. left ≡ client) }
+fn of_client<'a>(
+    client: ClientNo,
+    ended: Result<Left<'a>, WorkerFault>,
+) -> Result<Left<'a>, WorkerFault>
+    ensures same { OnOk result (result ≡ ended.entry) }
+    ensures client { IfOk result (λ left. left.client ≡ client) }
 {
     let left = ended?;
     if left.client() != client {
@@ -88,16 +74,17 @@ fn of_client(client: ClientNo, ended: Result<Left, WorkerFault>) -> Result<Left,
 }
 
 /// The worker leaves; it is abandoned where it faulted before, or can't leave.
-fn end<R: Wait + Clock, Q: Chooser>(
+fn end<'a, R: Wait + Clock, Q: Chooser>(
     rt: &R,
     alloc: Global,
-    office: &Office,
+    office: &'a Office,
     worker: Worker<Q>,
     worked: Result<(), WorkerFault>,
-) -> Result<Left, WorkerFault>
+) -> Result<Left<'a>, WorkerFault>
     ensures worked { IfErr worked (λ fault. result ≡ Err fault) }
+    ensures office { IfOk result (λ left. left.office ≡ office.entry.ref_ptr) }
+    ensures client { IfOk result (λ left. left.client ≡ worker.hand.client) }
     ensures left { OnOk result (LeavesSome worker.hand (Ok tt)) }
-    ensures client { IfOk result (λ left. left ≡ worker.hand.client) }
     ensures why { OnOk worked (IfErr result (RefusesLeave worker)) }
 {
     if let Err(fault) = worked {

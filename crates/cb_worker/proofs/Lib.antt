@@ -20,6 +20,8 @@
 -- Dropping: how a transaction is dropped, and that it is said.
 -- Telling: all who are to be told are told.
 -- Entering: why a client doesn't join, and of what hand a worker is.
+-- Admitting: a client that enters was let in.
+-- Leaving: a client left, or that was refused.
 pub mod Reading
 pub mod Keeping
 pub mod Going
@@ -41,3 +43,5 @@ pub mod Serving
 pub mod Dropping
 pub mod Telling
 pub mod Entering
+pub mod Admitting
+pub mod Leaving

@@ -12,6 +12,8 @@ pub mod Asking
 pub mod Steps
 pub mod Serving
 pub mod Entering
+pub mod Leaving
+pub mod Admitting
 pub mod Dropping
 pub mod ReadToCommit
 pub mod FaultTexts

@@ -13,6 +13,7 @@ mod admitting;
 mod committing;
 mod entering;
 mod joining;
+mod leaving;
 mod standing;
 mod turning;
 mod waiting;
@@ -23,7 +24,7 @@ use cb_frame::Frame;
 use cb_hands::Hand;
 use cb_page::{ClientNo, PageNo, TxnNo};
 use cb_twoq::Chooser;
-pub use entering::Left;
+pub use leaving::Left;
 use std::marker::Model;
 
 /// A client with its hand. It can't be copied or dropped; `leave` and `abandon` end it.

@@ -33,7 +33,7 @@ fn leaves_its_job<Q: Chooser, R: Wait + Clock>(
         office,
         counts: &counts,
     };
-    let worked = work(rt, alloc, office, worker, &jobs, &results, &gate) == Ok(());
+    let worked = work(rt, alloc, office, worker, &jobs, &results, &gate).is_ok();
     let unasked = jobs.iter(rt).count() == 1 && results.into_receiver().iter(rt).count() == 0;
     let unwritten = office.lock(rt).history().is_empty();
     sent && worked && unasked && unwritten && may_come_back(rt, alloc, office)

@@ -1,12 +1,15 @@
 //! Tries are let in, and a worker waits a moment.
-ghost use Rattle.std.specs.Prelude.{IfErr, OnOk};
+ghost use Rattle.std.specs.Prelude.{IfErr, IfOk, IfSome, OnOk};
 ghost use Rattle.cb_station.specs.Telling.{IsTold};
+ghost use Rattle.cb_worker.specs.Admitting.{AsksAgainAndTells, AsksAndTells, EntersAgainAt};
+ghost use Rattle.cb_worker.specs.Admitting.{EntersAt, StopsAndTells, WasLetIn};
 ghost use Rattle.cb_worker.specs.Moving.{IsStill};
 ghost use Rattle.cb_worker.specs.Refusals.{StopsServing};
 ghost use Rattle.cb_worker.specs.Waiting.{IsServed};
 
 use crate::worker::Worker;
 use crate::worker_fault::WorkerFault;
+use cb_page::ClientNo;
 use cb_station::{EndedTry, Office, Station, Ticket};
 use cb_twoq::Chooser;
 use std::alloc::Global;
@@ -23,6 +26,7 @@ impl<Q: Chooser> Worker<Q> {
         alloc: Global,
         office: &Office,
     ) -> Result<Ticket, WorkerFault>
+        ensures let_in { IfOk result (WasLetIn self.new) }
         ensures served { OnOk result (IsServed self.new) }
         ensures still { IsStill self.old self.new }
         ensures refused { IfErr result (StopsServing self.new) }
@@ -42,6 +46,7 @@ impl<Q: Chooser> Worker<Q> {
         office: &Office,
         ended: EndedTry,
     ) -> Result<Ticket, WorkerFault>
+        ensures let_in { IfOk result (WasLetIn self.new) }
         ensures served { OnOk result (IsServed self.new) }
         ensures still { IsStill self.old self.new }
         ensures refused { IfErr result (StopsServing self.new) }
@@ -61,8 +66,10 @@ impl<Q: Chooser> Worker<Q> {
         locked: MutexGuard<'a, Station>,
         first: Result<Option<Ticket>, WorkerFault>,
     ) -> Result<Ticket, WorkerFault>
+        requires let_in { IfOk first (λ ticket. IfSome ticket (WasLetIn self.old)) }
         requires served { OnOk first (IsServed self.old) }
         requires refused { IfErr first (StopsServing self.old) }
+        ensures let_in { IfOk result (WasLetIn self.new) }
         ensures served { OnOk result (IsServed self.new) }
         ensures still { IsStill self.old self.new }
         ensures refused { IfErr result (StopsServing self.new) }
@@ -87,6 +94,8 @@ impl<Q: Chooser> Worker<Q> {
         office: &Office,
         station: &mut Station,
     ) -> Result<Option<Ticket>, WorkerFault>
+        ensures enters { EntersAt self.old station.old result self.new station.new }
+        ensures let_in { IfOk result (λ ticket. IfSome ticket (WasLetIn self.new)) }
         ensures served { OnOk result (IsServed self.new) }
         ensures still { IsStill self.old self.new }
         ensures told { IsTold station.new }
@@ -95,13 +104,10 @@ impl<Q: Chooser> Worker<Q> {
         let client = self.hand.client();
         if let Err(fault) = self.serve_at(rt, alloc, office, station) {
             // Who was told that it is to be let in next hands that on.
-            station.stop_waiting(client);
-            office.tell(station);
+            stop_at(office, station, client);
             return Err(fault);
         }
-        let ticket = station.admit(client);
-        office.tell(station);
-        Ok(ticket)
+        Ok(ask_at(office, station, client))
     }
 
     /// Serves, ends the try, and asks for another one. `None` if that has to be waited for.
@@ -113,6 +119,8 @@ impl<Q: Chooser> Worker<Q> {
         station: &mut Station,
         ended: EndedTry,
     ) -> Result<Option<Ticket>, WorkerFault>
+        ensures enters { EntersAgainAt self.old station.old ended result self.new station.new }
+        ensures let_in { IfOk result (λ ticket. IfSome ticket (WasLetIn self.new)) }
         ensures served { OnOk result (IsServed self.new) }
         ensures still { IsStill self.old self.new }
         ensures told { IsTold station.new }
@@ -123,9 +131,7 @@ impl<Q: Chooser> Worker<Q> {
             office.end_try_at(station, ended);
             return Err(fault);
         }
-        let again = station.try_again(ended, client);
-        office.tell(station);
-        Ok(again)
+        Ok(ask_again_at(office, station, client, ended))
     }
 
     /// Serves, and waits until there may be a frame, but no longer than this.
@@ -145,4 +151,35 @@ impl<Q: Chooser> Worker<Q> {
         let _station = office.wait_for_frame_at_most(rt, station, self.hand.client(), limit);
         Ok(())
     }
+}
+
+/// The client asks to be let in, and all who are to be told are told.
+fn ask_at(office: &Office, station: &mut Station, client: ClientNo) -> Option<Ticket>
+    ensures { AsksAndTells station.old client result station.new }
+{
+    let ticket = station.admit(client);
+    office.tell(station);
+    ticket
+}
+
+/// The same as its last try ends.
+fn ask_again_at(
+    office: &Office,
+    station: &mut Station,
+    client: ClientNo,
+    ended: EndedTry,
+) -> Option<Ticket>
+    ensures { AsksAgainAndTells station.old ended client result station.new }
+{
+    let again = station.try_again(ended, client);
+    office.tell(station);
+    again
+}
+
+/// The client no longer waits to be let in, and whoever is next is told.
+fn stop_at(office: &Office, station: &mut Station, client: ClientNo)
+    ensures { StopsAndTells station.old client station.new }
+{
+    station.stop_waiting(client);
+    office.tell(station);
 }

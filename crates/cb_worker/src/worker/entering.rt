@@ -10,7 +10,7 @@ ghost use Rattle.cb_worker.specs.Workers.{IsOf, last_txn};
 
 use crate::awaited::Awaited;
 use crate::said::Said;
-use crate::worker::{Worker, joining};
+use crate::worker::{Left, Worker, joining, leaving};
 use crate::worker_fault::WorkerFault;
 use cb_client::{Client, ClientFault};
 use cb_hands::Hand;
@@ -18,32 +18,7 @@ use cb_page::{ClientNo, Incarnation, Limits};
 use cb_station::{Office, OfficeFault};
 use cb_twoq::Chooser;
 use std::alloc::Global;
-use std::marker::Model;
 use std::sync::Wait;
-
-/// Says that a client's worker left an office. Only [`Worker::take_leave`] makes one, and nobody
-/// can copy it. In contracts it is the client's number.
-#[derive(Drop)]
-pub struct Left {
-    client: ClientNo,
-}
-
-impl Model for Left {
-    ghost use Rattle.std.specs.Prelude.{ℕ};
-
-    ghost Value = { ℕ };
-
-    ghost view = { λ left. left.client };
-}
-
-impl Left {
-    /// Which client it was.
-    pub fn client(&self) -> ClientNo
-        ensures { result ≡ self.now }
-    {
-        self.client
-    }
-}
 
 impl<Q: Chooser> Worker<Q> {
     /// The client joins the office, with an empty chooser, and is welcomed. Its incarnation is the
@@ -158,15 +133,16 @@ impl<Q: Chooser> Worker<Q> {
         }
     }
 
-    /// As [`Worker::leave`], but Ok has a value which says that the client left.
-    pub fn take_leave<R: Wait>(
+    /// As [`Worker::leave`], but Ok has a value which says that the client left this office.
+    pub fn take_leave<'a, R: Wait>(
         self,
         rt: &R,
         alloc: Global,
-        office: &Office,
-    ) -> Result<Left, (WorkerFault, Worker<Q>)>
+        office: &'a Office,
+    ) -> Result<Left<'a>, (WorkerFault, Worker<Q>)>
+        ensures office { IfOk result (λ left. left.office ≡ office.entry.ref_ptr) }
+        ensures client { IfOk result (λ left. left.client ≡ self.hand.client) }
         ensures left { OnOk result (LeavesSome self.hand (Ok tt)) }
-        ensures client { IfOk result (λ left. left ≡ self.hand.client) }
         ensures refused { IfErr result (λ refused. refused.1 ≡ self) }
         ensures why { IfErr result (λ refused. RefusesLeave self refused.0) }
     {
@@ -176,9 +152,8 @@ impl<Q: Chooser> Worker<Q> {
             collected,
             said,
         } = self;
-        let number = hand.client();
-        match joining::leave(rt, alloc, office, hand) {
-            Ok(()) => Ok(Left { client: number }),
+        match leaving::leave(rt, alloc, office, hand) {
+            Ok(left) => Ok(left),
             Err((fault, hand)) => {
                 let worker = Worker {
                     client,

@@ -1,9 +1,9 @@
-//! A client joins the office, begins another incarnation, and leaves, each under the lock. Who is
-//! to be told of it is told there.
-ghost use Rattle.cb_worker.specs.Entering.{JoinsAndTells, JoinsSome, JoinsWith, LeavesAndTells};
-ghost use Rattle.cb_worker.specs.Entering.{LeavesSome, RestartsAndTells, RestartsSome};
-ghost use Rattle.cb_worker.specs.Entering.{TriesToLeave};
+//! A client joins the office, or begins another incarnation, each under the lock. Who is to be told
+//! of it is told there.
+ghost use Rattle.cb_worker.specs.Entering.{JoinsAndTells, JoinsSome, JoinsWith, RestartsAndTells};
+ghost use Rattle.cb_worker.specs.Entering.{RestartsSome, TriesToLeave};
 
+use crate::worker::leaving::leave;
 use cb_hands::Hand;
 use cb_page::{ClientNo, Incarnation, Limits};
 use cb_station::{Office, OfficeFault, Station};
@@ -77,31 +77,6 @@ fn restart_at(
     let restarted = station.restart(alloc, hand, incarnation);
     office.tell(station);
     restarted
-}
-
-/// The client with that hand leaves.
-pub(super) fn leave<R: Wait>(
-    rt: &R,
-    alloc: Global,
-    office: &Office,
-    hand: Hand,
-) -> Result<(), (OfficeFault, Hand)>
-    ensures { LeavesSome hand result }
-{
-    leave_at(alloc, office, &mut office.lock(rt), hand)
-}
-
-fn leave_at(
-    alloc: Global,
-    office: &Office,
-    station: &mut Station,
-    hand: Hand,
-) -> Result<(), (OfficeFault, Hand)>
-    ensures { LeavesAndTells station.old hand result station.new }
-{
-    let left = station.leave(alloc, hand);
-    office.tell(station);
-    left
 }
 
 /// Takes back that the client joined; its hand is spent, also where it can't leave.

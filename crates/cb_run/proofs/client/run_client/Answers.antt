@@ -3,4 +3,4 @@ use Rattle.cb_run.proofs.Leaving.{ends_so}
 use Rattle.cb_run.proofs.client.run_client.Goals as goal
 
 pub returns : goal.returns
-returns g c = rw c.end_part.ensures (ends_so _ c.args.client c.join_and_work-worked.result c.join_and_work-worked.ensures)
+returns g c = ends_so _ _ c.args.client c.join_and_work-worked.result c.end_part.result c.join_and_work-worked.ensures.office c.join_and_work-worked.ensures.client c.end_part.ensures
