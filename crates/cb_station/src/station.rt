@@ -207,10 +207,10 @@ impl Station {
         }
     }
 
-    /// Whether the hand is the one that is stored of its client: all its pages are compared. Each
-    /// call that is lent a hand compares it. Whoever makes several under one lock asks here once,
-    /// and makes those that are told the answer: `take_if_known`, `collect_if_known` and
-    /// `commit_if_known`. A known hand stays known, whatever these three answer.
+    /// Whether the hand is the one that is stored of its client: all its pages are compared. `take`,
+    /// `collect` and `commit` ask this each time. Whoever makes several calls under one lock asks
+    /// once, and makes `take_if_known`, `collect_if_known` and `commit_if_known`, which are told the
+    /// answer. It stays right, whatever these three return.
     pub fn knows(&self, hand: &Hand) -> bool
         ensures { IsKnown result self.now hand.now }
     {
