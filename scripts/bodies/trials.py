@@ -193,6 +193,7 @@ def told_alone(said: Said, edit: Edit, came: Came) -> None:
     errors = [f"{file}: {error}" for file, error in errors_of(said.log)]
     goals = [it for it in errors if not NAMES.search(it)]
     goals += [f"{file}:{line} {goal}" for file, line, goal in OPEN.findall(said.log)]
+    goals += [f"{path}: {it}" for path, it in said.lines().items() if "did not prove" in it]
     if goals or not errors:
         came.refused[edit] = f"alone, {(goals or ['it is not proved'])[0]}"
     else:
