@@ -114,7 +114,7 @@ def table(calls: list[list], below: Path | None) -> None:
 
 
 def gate(rt: Path, is_anew: bool) -> list[str | Path]:
-    """The words of the gate, with the flag against what was kept where the kit's program has it."""
+    """The words of the gate: with the flag against what was kept, if the kit has it."""
     return [rt, "ci", *([ANEW] if is_anew and ANEW in rt.read_text() else [])]
 
 

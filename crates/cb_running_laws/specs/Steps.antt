@@ -1,5 +1,5 @@
--- What threads do to a running program, one step after another. Each step is one call, told by the
--- record that the contract of the call has.
+-- What threads do to a running program, one step after another. Each step is one call, told by a
+-- record of what the contract of the call says.
 use Rattle.std.specs.Prelude.{◌≡◌, ◌≢◌, ◌++◌, ℕ, true, List, [], ◌∷◌, Bool, ⊤}
 use Rattle.std.specs.Prelude.{Some, None, Result, Ok}
 use Rattle.cb_client.specs.ByTable.{Calls}

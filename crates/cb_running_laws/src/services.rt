@@ -25,9 +25,9 @@ pub fn next_life_is_new<S: Alter>()
 /// service may also stop, even within a round. At each moment the world has this server, while it
 /// runs, these clients and every frame that was sent, and its transcript has what was read and
 /// written. The whole promise therefore holds of it. What committed transactions read and wrote is
-/// serial in commit order, and leaves the store. Two processes that have bytes of one page have the
-/// same bytes. While a transaction may write a page, no other process has bytes of it. The rounds
-/// are those of `serve` one after another (`AreRounds`).
+/// serial in commit order, and leaves the store. Two processes that began in this life and have
+/// bytes of one page have the same bytes. While a transaction may write a page, no other such
+/// process has bytes of it. The rounds of the run are `AreRounds`; the converse is no law.
 ///
 /// Any frame that was sent may come, once, often or never, in any order, and so may bytes that are
 /// no frame. Four premises aren't clauses of any call. No frame comes that no client sent, except

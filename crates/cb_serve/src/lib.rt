@@ -2,7 +2,7 @@
 //!
 //! [`serve`] works in rounds. It reads what is there, takes each whole frame, puts out the answers,
 //! writes all that was committed in one transaction, and then puts the Dones out. Many commits
-//! therefore share a sync, and none is answered before it is on disk.
+//! therefore share a sync, and none is answered before the database has committed it.
 #![tactic(auto)]
 
 mod announcing;

@@ -2,8 +2,10 @@
 //!
 //! In contracts a running [`World`] is a world of the protocol that is reached from its opening
 //! store, whatever events are played. The protocol's whole promise therefore holds of it at each
-//! moment. [`Lives`] is the same for a server that restarts, over all its lives. [`draw`] draws
-//! schedules: random events, in a world that plays them as they come.
+//! moment. [`Lives`] is a world over all lives of a server that restarts. There what the promise
+//! says of copies holds among the clients of the present life, and the commits that count are
+//! serial over all lives. [`draw`] draws schedules: random events, in a world that plays them as
+//! they come.
 //!
 //! A world's clients are [`WorldClients`], each at its present incarnation: each call, packet and
 //! restart changes them as the protocol's step does. Its [`Packets`] are every packet that was ever

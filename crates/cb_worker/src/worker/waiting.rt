@@ -326,7 +326,14 @@ impl<Q: Chooser> Worker<Q> {
             return Ok(Some(Came::Ended(Finished::Aborted)));
         }
         self.ask_to_write(page)?;
-        self.go_on(rt, alloc, office, &Awaited::Permission(page), station, known)
+        self.go_on(
+            rt,
+            alloc,
+            office,
+            &Awaited::Permission(page),
+            station,
+            known,
+        )
     }
 
     /// The client asks to write the page, and for the permission if it hasn't got it.
