@@ -14,6 +14,8 @@ from typing import Optional
 import building
 
 SANITIZERS = "-g -O1 -fsanitize=address,undefined -fno-sanitize-recover=all"
+# The seconds in which something comes that is to come, on a busy machine too.
+LONG = 60.0
 CONFIG = "clients = {}\npages = {}\npage_size = {}\nslots = {}\nkeep_write = {}\n"
 
 
@@ -179,7 +181,7 @@ def free_port() -> int:
         return free.getsockname()[1]
 
 
-def wait_for(what, seconds: float = 20.0) -> bool:
+def wait_for(what, seconds: float = LONG) -> bool:
     """Waits until it is so; whether it came to be."""
     end = time.monotonic() + seconds
     while time.monotonic() < end:

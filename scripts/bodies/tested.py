@@ -11,6 +11,8 @@ from building import RT, TOP
 
 # What the words of scripts/check run, where that isn't cb_play: a crate's tests.
 TESTS = {"refused run": "cb_tests"}
+# How long a test may take, that isn't to fail for a busy machine.
+SECONDS = "300"
 
 
 def copy_with(edit: Edit, crate: str, names: list[str], room: Path) -> Path:
@@ -22,12 +24,13 @@ def copy_with(edit: Edit, crate: str, names: list[str], room: Path) -> Path:
 
 
 def test_run(top: Path, name: str, test: str) -> tuple[Said, str]:
-    """The tests of a crate, unproved, and the line by which the one that is meant fails."""
-    said = ran([*RT, "try", name, "--test"], top / "crates" / name)
-    if "run=none" in said.log:
-        raise building.NotBuilt(said.log)
-    failed = re.search(rf"^test {re.escape(test)} \.\.\. (?!ok|ignored).*$", said.log, re.M)
-    return said, failed[0] if failed else ""
+    """One test of a crate, unproved, and the line by which it fails."""
+    words = [*RT, "try", name, "--test", "--seconds", SECONDS, "--", test]
+    said = ran(words, top / "crates" / name)
+    told = re.search(rf"^test {re.escape(test)} \.\.\. (.*)$", said.log, re.M)
+    if "run=none" in said.log or not told:
+        raise building.NotBuilt(f"{said.log}\n{name} has run no test {test}")
+    return said, "" if told[1] in ("ok", "ignored") else told[0]
 
 
 def stored_run(top: Path) -> tuple[Said, str]:

@@ -189,11 +189,16 @@ def try_one(prover: Prover, crate: Path, words: list[str], edit: Edit, came: Cam
 
 def told_alone(said: Said, edit: Edit, came: Came) -> None:
     """Notes what refuses a body that was tried alone: a goal. Names that proof files give to goals
-    that it hasn't don't tell that it is wrong."""
-    errors = [f"{file}: {error}" for file, error in errors_of(said.log)]
-    goals = [it for it in errors if not NAMES.search(it)]
+    that it hasn't don't tell that it is wrong, nor do errors in a definition that it changes."""
+    found = errors_of(said.log)
+    changed = {it for it in edit.files() if it.startswith("specs/")}
+    unread = [it for file, it in found if f"{file}.antt" in changed]
+    goals = [f"{file}: {it}" for file, it in found if not NAMES.search(it)]
     goals += [f"{file}:{line} {goal}" for file, line, goal in OPEN.findall(said.log)]
-    if goals or not errors:
+    goals += [f"{path}: {it}" for path, it in said.lines().items() if "did not prove" in it]
+    if unread:
+        came.bad[edit] = f"its text isn't read: {unread[0]}"
+    elif goals or not found:
         came.refused[edit] = f"alone, {(goals or ['it is not proved'])[0]}"
     else:
-        came.bad[edit] = f"names of proof files alone refuse it: {errors[0]}"
+        came.bad[edit] = f"names of proof files alone refuse it: {found[0][1]}"

@@ -16,7 +16,7 @@ from checks.frames import (
     of_commit, of_page, of_read,
 )
 from checks.trying import ran, sanitizer_fault
-from serving import Gateway, wait_for
+from serving import LONG, Gateway, wait_for
 
 PATIENCE, SILENCE = 1, 3
 
@@ -34,7 +34,7 @@ class Peer:
         else:
             to = ("127.0.0.1", gateway.port)
             self.socket = socket.create_connection(to, 20, source_address=(source, 0))
-        self.socket.settimeout(20)
+        self.socket.settimeout(LONG)
         self.client = self.incarnation = 0
         if client is not None:
             answer = self.greeted(token_of(gateway, client))
@@ -78,7 +78,7 @@ class Peer:
             pass
         return self
 
-    def is_closed(self, seconds: float = 20) -> bool:
+    def is_closed(self, seconds: float = LONG) -> bool:
         """Whether the gateway closes it, whatever comes before."""
         self.socket.settimeout(seconds)
         try:

@@ -357,7 +357,7 @@ def owner_counts(gateway: Gateway) -> bool:
     others.chmod(0o600)
     os.chown(others, 65534, -1)
     status, said = refused(gateway, "--tokens", others, "--unix", gateway.room / "other")
-    return status == 2 and "another owns it" in said
+    return status == 2 and "the gateway's user has to own it" in said
 
 
 # ---- ends ----
