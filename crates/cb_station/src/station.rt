@@ -207,10 +207,10 @@ impl Station {
         }
     }
 
-    /// Whether the hand is the one that is stored of its client: all its pages are compared. `take`,
-    /// `collect` and `commit` ask this each time. Whoever makes several calls under one lock asks
-    /// once, and makes `take_if_known`, `collect_if_known` and `commit_if_known`, which are told the
-    /// answer. It stays right, whatever these three return.
+    /// Whether the hand is the one that is stored of its client: all its pages are compared.
+    /// `take`, `collect` and `commit` ask this each time. Whoever makes several calls under one
+    /// lock asks once, and makes `take_if_known`, `collect_if_known` and `commit_if_known`, which
+    /// are told the answer. It stays right, whatever these three return.
     pub fn knows(&self, hand: &Hand) -> bool
         ensures { IsKnown result self.now hand.now }
     {
