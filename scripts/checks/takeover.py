@@ -35,7 +35,7 @@ from checks import engine_faults
 from checks.bad_input import Peer, token_of
 from checks.built import Built
 from checks.killing import Workers, in_series
-from checks.trying import Tries, numbers
+from checks.trying import Tries, numbers, sanitizer_fault
 from postgres import Cluster
 from serving import Gateway, wait_for
 
@@ -138,13 +138,15 @@ def keep_logs(site: Site) -> None:
 
 
 def note_findings(room: Path) -> None:
-    """Has the sanitizers of all programs write what they find to files of this folder."""
+    """Has ASan write what it finds to files of this folder; UBSan's lines stand in the logs."""
     room.mkdir(mode=0o777)
-    os.environ["ASAN_OPTIONS"] = os.environ["UBSAN_OPTIONS"] = f"log_path={room}/found"
+    os.environ["ASAN_OPTIONS"] = f"log_path={room}/found"
 
 
-def findings(room: Path) -> str:
-    return "\n".join(path.read_text()[:2000] for path in sorted(room.iterdir()))
+def findings(room: Path, site: Site) -> str:
+    found = [path.read_text()[:2000] for path in sorted(room.iterdir())]
+    found += [sanitizer_fault(gateway.log()) for gateway in site.gateways]
+    return "\n".join(filter(None, found))
 
 
 # ---- what is lost ----
@@ -241,6 +243,6 @@ def main(words: list[str]) -> int:
         finally:
             statuses = closed(site)
         tries.told("the gateways are stopped", statuses == [0, 0], f"{statuses}")
-        found = findings(room / "sanitizers")
+        found = findings(room / "sanitizers", site)
         tries.told("sanitizers found nothing", not found, found)
     return tries.status("takeover")
