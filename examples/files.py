@@ -6,9 +6,10 @@
     rename OLD NEW      renames a file, in place of what was there
     remove NAME         removes a file
     hot NAME COUNT      reads file NAME so many times, and says how long one read took
+    watch NAME COUNT    writes file NAME, and again once it was changed, so many times in all
 
 Page 0 has the directory as JSON: for each name the size and the list of pages. The other pages have
-the files' bytes. Each command is one transaction, so nobody sees half of it.
+the files' bytes. Each of the first five commands is one transaction, so nobody sees half of it.
 """
 
 from __future__ import annotations
@@ -72,20 +73,43 @@ class Files:
         return b""
 
 
+def looked_at(link: Link, name: str) -> bytes:
+    """The bytes of a file, by a transaction that is dropped."""
+
+    def look(transaction: Transaction) -> bytes:
+        data = Files(transaction, link.client.limits.pages).get(name)
+        transaction.drop()  # it only read: there is nothing to commit, and nothing to wait for
+        return data
+
+    return link.run(look)
+
+
+def watch(link: Link, name: str, count: int) -> bytes:
+    """Writes a file now, and each time that it is another, until that is enough."""
+    before = None
+    while count:
+        data = looked_at(link, name)
+        if data == before:
+            link.serve()  # answers whoever wants these pages; waits a second if nobody does
+            continue
+        sys.stdout.buffer.write(data)
+        sys.stdout.flush()
+        before, count = data, count - 1
+    return b""
+
+
 def hot(link: Link, name: str, count: int) -> bytes:
-    pages, begun = link.client.limits.pages, time.perf_counter()
+    begun = time.perf_counter()
     for _ in range(count):
-        with link.transaction() as transaction:
-            Files(transaction, pages).get(name)
-            transaction.drop()  # it only read: there is nothing to commit, and nothing to wait for
+        looked_at(link, name)
     print(f"{(time.perf_counter() - begun) / count * 1e6:.1f} us a read", file=sys.stderr)
     return f"{count} reads\n".encode()
 
 
 def do(link: Link, command: str, words: list) -> bytes:
     """Does a command in one transaction, and again each time that the transaction is aborted."""
-    if command == "hot":
-        return hot(link, words[0], int(words[1]))
+    if command in ("hot", "watch"):
+        return {"hot": hot, "watch": watch}[command](link, words[0], int(words[1]))
     job, pages = getattr(Files, command), link.client.limits.pages
     return link.run(lambda transaction: job(Files(transaction, pages), *words))
 
@@ -95,13 +119,15 @@ def main(address: str, tokens: str, client: str, command: str, *names: str) -> N
     for _ in range(300):
         try:
             with connect(address, read_token(tokens, int(client))) as link:
-                sys.stdout.buffer.write(do(link, command, words))
-                return
+                said = do(link, command, words)
+            break  # the link is closed before the output, which may block
         except (Refused, OSError) as why:  # no gateway yet, or its server is being started again
             if isinstance(why, Refused) and not why.is_down:
                 raise
             time.sleep(0.1)
-    sys.exit("the gateway is gone")
+    else:
+        sys.exit("the gateway is gone")
+    sys.stdout.buffer.write(said)
 
 
 if __name__ == "__main__":

@@ -16,10 +16,10 @@ there. The library is the archive that stands in FOLDER, else it is built over t
 ci` built there. FOLDER may also have just the program cb_play and librughvadi.a. All else is done
 by `rt` itself.
 
-It needs `rt`; the long ones also what scripts/install needs, cargo, pkg-config and sqlite3. The
-short commands take some five processor minutes, since two of them compile the whole program. A line
-for each says how many seconds it took. The status is 1 where a command ends with another status
-than 0, or prints something else.
+It needs `rt`; the long ones also what scripts/install needs, cargo, pkg-config and sqlite3. The one
+short command takes some three processor minutes, since it compiles the whole program. A line for
+each says how many seconds it took. The status is 1 where a command ends with another status than 0,
+or prints something else.
 """
 import os
 import re

@@ -27,8 +27,8 @@
 - A client of a wrapper that holds a page as the server becomes another: it is gone.
 - The host in C, `hosts/served.c`: copies of its store by sqlite3 while it serves, a kill, and
   frames that are none.
-- The examples: a counter in C by four processes, transfers in Python, keys in Rust in one store and
-  in four.
+- The examples: a counter in C by four processes, transfers and a job board in Python, keys in Rust
+  in one store and in four.
 - The same over datagrams of which a tenth is lost, repeated or late.
 - Clients that fight for the same two pages: few tries are in vain, and each client gets its turns;
   by processes, and by the gateway's own code and the library over a clock that is no machine's.
@@ -125,6 +125,11 @@ def run_examples(tries: Tries, it: Built) -> None:
         transfers(tries, it, "examples", gateway.socket, gateway, 100)
     finally:
         gateway.stop()
+    gateway = it.served("job_board")
+    try:
+        job_board(tries, it, gateway)
+    finally:
+        gateway.stop()
 
 
 def transfers(
@@ -133,6 +138,16 @@ def transfers(
     words = [sys.executable, building.TOP / "examples/transfers.py", address, gateway.tokens, times]
     right, said = together(it, [words])
     tries.told(f"{name}: transfers in Python", right, said)
+
+
+def job_board(tries: Tries, it: Built, gateway: Gateway) -> None:
+    """One process puts jobs, and four take each once."""
+    board = [sys.executable, building.TOP / "examples/job_board.py", gateway.socket, gateway.tokens]
+    texts = [f"job-{number}" for number in range(24)]
+    put, said = together(it, [[*board, 0, "put", *texts]])
+    worked, taken = together(it, [[*board, client, "work", 0.01] for client in range(1, 5)])
+    once = sorted(line.split()[-1] for line in taken.splitlines()) == sorted(texts)
+    tries.told("examples: a job board in Python, by four", put and worked and once, said + taken)
 
 
 def run_gone(tries: Tries, it: Built) -> None:

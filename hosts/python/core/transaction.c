@@ -159,9 +159,9 @@ static PyMethodDef methods[] = {
      "server restarts or is told that the client left."},
     {"drop", transaction_drop, METH_NOARGS,
      "drop($self, /)\n--\n\n"
-     "Ends the transaction without a commit, as the last call of the `with`. Nothing is\n"
-     "written, and it waits for no answer, whereas a commit of reads alone waits for a sync.\n"
-     "Its reads have no place among the commits."},
+     "Ends the transaction without a commit, as the last call of the `with`, or of the job that\n"
+     "`run` does. Nothing is written, and it waits for no answer, whereas a commit of reads\n"
+     "alone waits for a sync. Its reads have no place among the commits."},
     {"write", transaction_write, METH_VARARGS,
      "write($self, page, data, /)\n--\n\nWrites a page that the transaction has read."},
     {NULL, NULL, 0, NULL}};

@@ -17,7 +17,13 @@ def connect(
 ) -> Link:
     """A link to a store of a gateway. The gateway listens at HOST:PORT or on a Unix socket, whose
     path has a `/` in it. If an answer doesn't come within `time_out` seconds, what may be lost is
-    sent again. None waits forever, for the gateway too."""
+    sent again. None waits forever, for the gateway too.
+
+    The client has to answer as long as it is connected, since others wait for the pages that it
+    holds. Between transactions call `serve`, or close the link before the program works, sleeps or
+    waits for something else. If somebody has waited for 30 seconds, the gateway ends the
+    connection, and the next call raises an `OSError`. A second connection with the same token ends
+    the first."""
     patience = None if time_out is None else PATIENCE * time_out
     connected = _dial(address, patience)
     try:

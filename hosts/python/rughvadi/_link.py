@@ -74,7 +74,9 @@ class Link(Exchange):
 
     def serve(self) -> bool:
         """Takes what the socket gives next, and answers. Others may wait for that, since they want
-        pages that the client holds. False if the socket's time-out passed first."""
+        pages that the client holds. So a program that looks at pages may also wait for a change in
+        this way. False if the socket's time-out passed first (a second, unless `connect` was told
+        otherwise)."""
         self._check()
         self._say()
         return self._receive_within(self._socket.gettimeout())

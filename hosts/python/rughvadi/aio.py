@@ -291,7 +291,11 @@ async def connect(
 ) -> Link:
     """A link to a store of a gateway. The gateway listens at HOST:PORT or on a Unix socket, whose
     path has a `/` in it. If an answer doesn't come within `time_out` seconds, what may be lost is
-    sent again. None waits forever, for the gateway too."""
+    sent again. None waits forever, for the gateway too.
+
+    The link answers others whenever the loop runs. What keeps the loop for long belongs in
+    `asyncio.to_thread`: if somebody has waited for 30 seconds, the gateway ends the connection. A
+    second connection with the same token ends the first."""
     connected = None
     try:
         async with asyncio.timeout(None if time_out is None else PATIENCE * time_out):
