@@ -24,6 +24,7 @@ import os
 import struct
 import tempfile
 from concurrent.futures import ThreadPoolExecutor
+from functools import partial
 from pathlib import Path
 
 import building
@@ -35,6 +36,8 @@ from checks.frames import (
 from checks.trying import ran
 
 COMMITS, EVENTS = 120_000, 1_000_000
+# The incarnation from which on a store is served that was never served before.
+FIRST_FLOOR = 1 << 61
 NAMES = ["clients", "pages", "page_size", "slots", "kin", "kout", "keep_write"]
 
 
@@ -220,9 +223,9 @@ def schedules():
     yield most_events, limits()
 
 
-def frame(kind, body=b"", client=0, version=2):
-    """A frame of incarnation 1, in hexadecimal digits."""
-    return frames.frame(kind, client, 1, body, version).hex()
+def frame(kind, body=b"", client=0, version=2, incarnation=1):
+    """A frame, in hexadecimal digits."""
+    return frames.frame(kind, client, incarnation, body, version).hex()
 
 
 class Bodies:
@@ -367,15 +370,17 @@ class Calls:
 
 
 def served(clients, commits, past=0):
-    """What is to be answered to commits of no pages, behind those that are past, and the stream."""
+    """What is to be answered to commits of no pages, behind those that are past, and the stream. A
+    run's store has had no life yet, so the clients are of the first floor."""
     stream, said, dones = [], [], []
     for client in range(clients):
-        stream.append(frame(HELLO, b"", client))
-        said.append(frame(WELCOME, b"", client))
+        speaks = partial(frame, client=client, incarnation=FIRST_FLOOR)
+        stream.append(speaks(HELLO))
+        said.append(speaks(WELCOME))
         for txn in range(1, commits + 1):
             number = past + len(dones) + 1
-            stream.append(frame(COMMIT, of_commit(txn), client))
-            dones.append(frame(DONE, struct.pack(">QQ", txn, number), client))
+            stream.append(speaks(COMMIT, of_commit(txn)))
+            dones.append(speaks(DONE, struct.pack(">QQ", txn, number)))
     return bytes.fromhex("".join(said + dones)), bytes.fromhex("".join(stream))
 
 
