@@ -30,7 +30,8 @@ from building import TOP
 from words import WORDS
 
 CHECK = TOP / "scripts/check"
-LISTS = sorted(str(it) for it in (TOP / "crates/cb_play/data").glob("*_*.list"))
+# Drawn lists of one side, which have what an independent program answers.
+LISTS = sorted(str(it) for it in (TOP / "crates/cb_play/data").glob("*_pages*.list"))
 ARCHIVE = TOP / "crates/rughvadi/out/librughvadi.a"
 # What stands for the clone in the words of a run.
 CLONE = "CLONE"
