@@ -36,7 +36,7 @@ class Refusing:
         env = {**os.environ, "LD_PRELOAD": str(self.library), "REFUSED": str(refused), **variables}
         done = ran(self.program, *words, env=env, text=True, timeout=60)
         lines = done.stderr.splitlines()
-        # The library says the number as the program ends, and a test that fails may go on behind it.
+        # The library says the number as the program ends. A test that fails may go on behind it.
         last = max((at for at, it in enumerate(lines) if it.isdecimal()), default=None)
         growths = 0 if last is None else int(lines.pop(last))
         return Ended(done.returncode, done.stdout, lines, growths)
