@@ -109,7 +109,7 @@ impl CopyTable {
         requires { page < length self.old }
         ensures { self.new ≡ slice_set self.old page copy }
     {
-        flag(&mut self.known, page, copy.is_known());
+        self.known.put(page, copy.is_known());
         self.rows[page.index()] = copy;
     }
 
@@ -120,18 +120,6 @@ impl CopyTable {
     {
         clear_rows(&mut self.rows, &self.known);
         self.known.clear();
-    }
-}
-
-/// Puts the page in, or takes it out.
-fn flag(pages: &mut PageSet, page: PageNo, is: bool)
-    requires { page < length pages.old }
-    ensures { pages.new ≡ slice_set pages.old page is }
-{
-    if is {
-        pages.insert(page);
-    } else {
-        pages.remove(page);
     }
 }
 

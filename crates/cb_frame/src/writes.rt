@@ -1,11 +1,11 @@
 //! The pages that a commit writes.
-ghost use Rattle.std.specs.Prelude.{◌≡◌, ◌∷◌, [], ◌++◌, length, map, IsTrue, ◌↔◌, OnOk, OnErr};
+ghost use Rattle.std.specs.Prelude.{◌≡◌, ◌∷◌, [], ◌++◌, length, map, IfOk, IsTrue, ◌↔◌, OnOk, OnErr};
 ghost use Rattle.std.specs.List.{AllByRecursion};
 ghost use Rattle.cb_page.specs.Rising.{IsRising};
 ghost use Rattle.cb_frame.specs.Grammar.{WriteFits, page_of};
 
 use cb_page::{GrantNo, Limits, Page, PageNo};
-use std::alloc::AllocError;
+use std::alloc::{AllocError, Global};
 use std::marker::Model;
 
 /// A page that a commit writes.
@@ -40,6 +40,21 @@ impl Model for Writes {
 }
 
 impl Writes {
+    /// A copy of these pages. `AllocError` only if memory was refused.
+    pub fn copy_of(alloc: Global, writes: &[Write]) -> Result<Writes, AllocError>
+        ensures { IfOk result (λ copy. copy ≡ writes.now) }
+    {
+        let mut items = Vec::with_capacity(alloc, writes.len())?;
+        for write in writes {
+            items.push(Write {
+                page: write.page,
+                grant: write.grant,
+                bytes: Page::copy_of(alloc, write.bytes.as_slice())?,
+            })?;
+        }
+        Ok(Writes { items })
+    }
+
     /// Makes the list of these pages, which aren't copied.
     pub fn from_vec(items: Vec<Write>) -> Writes
         ensures { result ≡ items.items }

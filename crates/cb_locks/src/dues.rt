@@ -143,7 +143,7 @@ impl Dues {
         let was = self.at(page).is_due();
         let is = due.is_due();
         self.count = recount(self.count, was, is);
-        flag(&mut self.pages, page, is);
+        self.pages.put(page, is);
         self.entries[page.index()] = due;
     }
 
@@ -157,17 +157,5 @@ impl Dues {
             self.put(page, PageDue::NOTHING);
             from = page.index() + 1;
         }
-    }
-}
-
-/// Puts the page in, or takes it out.
-fn flag(pages: &mut PageSet, page: PageNo, is: bool)
-    requires { page < length pages.old }
-    ensures { pages.new ≡ slice_set pages.old page is }
-{
-    if is {
-        pages.insert(page);
-    } else {
-        pages.remove(page);
     }
 }

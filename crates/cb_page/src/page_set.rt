@@ -100,6 +100,18 @@ impl PageSet {
         }
     }
 
+    /// Puts the page in if it belongs there, and takes it out otherwise.
+    pub fn put(&mut self, page: PageNo, belongs: bool)
+        requires { page < length self.old }
+        ensures { self.new ≡ slice_set self.old page belongs }
+    {
+        if belongs {
+            self.insert(page);
+        } else {
+            self.remove(page);
+        }
+    }
+
     /// Takes all pages out.
     pub fn clear(&mut self)
         ensures { self.new ≡ replicate (length self.old) false }

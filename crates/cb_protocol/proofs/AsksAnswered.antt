@@ -37,12 +37,12 @@ to c i b = record { client = c; incarnation = i; body = b }
 abbrev Told : Asked → Body → List Message → Type 0
 Told a b fs = IsIn (record { client = a.client; incarnation = a.incarnation; body = b }) fs
 
-abbrev Met : Asked → Option ℕ → List Message → Type 0
-Met a None fs = (g v : ℕ) × ((b : List ℕ) × Told a (Granted a.page g v b) fs)
-Met a (Some g) fs = Told a (MayWrite a.txn a.page g) fs
+abbrev AskMet : Asked → Option ℕ → List Message → Type 0
+AskMet a None fs = (g v : ℕ) × ((b : List ℕ) × Told a (Granted a.page g v b) fs)
+AskMet a (Some g) fs = Told a (MayWrite a.txn a.page g) fs
 
 abbrev Answered : Asked → List ServerStep → Type 0
-Answered a ds = Met a a.write_grant (messages_sent ds) ⊎ (Told a (AbortNow a.txn) (messages_sent ds) ⊎ TransactionEnds a.client ds)
+Answered a ds = AskMet a a.write_grant (messages_sent ds) ⊎ (Told a (AbortNow a.txn) (messages_sent ds) ⊎ TransactionEnds a.client ds)
 
 -- after these steps it waits still, or was answered
 abbrev Accounted : Asked → Server → List ServerStep → Type 0
@@ -56,17 +56,17 @@ in_right : {A : Type 0} (x : A) (xs ys : List A) → IsIn x ys → IsIn x (xs ++
 in_right x [] ys h = h
 in_right x (z ∷ xs) ys h = inr (in_right x xs ys h)
 
-met_left : (a : Asked) (w : Option ℕ) (xs ys : List Message) → Met a w xs → Met a w (xs ++ ys)
+met_left : (a : Asked) (w : Option ℕ) (xs ys : List Message) → AskMet a w xs → AskMet a w (xs ++ ys)
 met_left a None xs ys h = (h.0, h.1, (h.2.0, in_left _ xs ys h.2.1))
 met_left a (Some g) xs ys h = in_left _ xs ys h
 
-met_right : (a : Asked) (w : Option ℕ) (xs ys : List Message) → Met a w ys → Met a w (xs ++ ys)
+met_right : (a : Asked) (w : Option ℕ) (xs ys : List Message) → AskMet a w ys → AskMet a w (xs ++ ys)
 met_right a None xs ys h = (h.0, h.1, (h.2.0, in_right _ xs ys h.2.1))
 met_right a (Some g) xs ys h = in_right _ xs ys h
 
 answered_left : (a : Asked) (xs ys : List ServerStep) → Answered a xs → Answered a (xs ++ ys)
 answered_left a xs ys h = elim h [
-  | inl m ↦ inl (subst (λ (fs : List Message). Met a a.write_grant fs) (sym (sent_append xs ys)) (met_left a a.write_grant (messages_sent xs) (messages_sent ys) m))
+  | inl m ↦ inl (subst (λ (fs : List Message). AskMet a a.write_grant fs) (sym (sent_append xs ys)) (met_left a a.write_grant (messages_sent xs) (messages_sent ys) m))
   | inr o ↦ elim o [
     | inl t ↦ inr (inl (subst (λ (fs : List Message). Told a (AbortNow a.txn) fs) (sym (sent_append xs ys)) (in_left _ (messages_sent xs) (messages_sent ys) t)))
     | inr e ↦ inr (inr (e.0, e.1, in_left _ xs ys e.2))
@@ -75,7 +75,7 @@ answered_left a xs ys h = elim h [
 
 answered_right : (a : Asked) (xs ys : List ServerStep) → Answered a ys → Answered a (xs ++ ys)
 answered_right a xs ys h = elim h [
-  | inl m ↦ inl (subst (λ (fs : List Message). Met a a.write_grant fs) (sym (sent_append xs ys)) (met_right a a.write_grant (messages_sent xs) (messages_sent ys) m))
+  | inl m ↦ inl (subst (λ (fs : List Message). AskMet a a.write_grant fs) (sym (sent_append xs ys)) (met_right a a.write_grant (messages_sent xs) (messages_sent ys) m))
   | inr o ↦ elim o [
     | inl t ↦ inr (inl (subst (λ (fs : List Message). Told a (AbortNow a.txn) fs) (sym (sent_append xs ys)) (in_right _ (messages_sent xs) (messages_sent ys) t)))
     | inr e ↦ inr (inr (e.0, e.1, in_right _ xs ys e.2))
@@ -190,7 +190,7 @@ first_leaves s p x q e at c w h = go (at == p) refl
 
 -- an ask that is met leaves: these steps, of which the second says so
 meets : (a : Asked) (s : Server) (p : ℕ) (x : WaitingAsk) (q : List WaitingAsk) (m : SessionChange) (b : Body) → s.queue p ≡ x ∷ q → (EndsTransaction m → ⊥)
-    → ((fs : List Message) → a.page ≡ p → x.client ≡ a.client → x.write_grant ≡ a.write_grant → (s.session a.client).txn ≡ a.txn → IsIn (to a.client a.incarnation b) fs → Met a a.write_grant fs)
+    → ((fs : List Message) → a.page ≡ p → x.client ≡ a.client → x.write_grant ≡ a.write_grant → (s.session a.client).txn ≡ a.txn → IsIn (to a.client a.incarnation b) fs → AskMet a a.write_grant fs)
     → Accounted a s (ChangeSession x.client m ∷ Send x.client (s.session x.client).current b ∷ LeaveQueue p ∷ [])
 meets a s p x q m b e n f w = elim (first_leaves s p x q e a.page a.client a.write_grant w.stands) [
   | inl h ↦ let k = same_after s x.client a.client (session_after (s.session x.client) m) (same_session (s.session x.client) m n) in
@@ -259,11 +259,11 @@ accounts_downgrades a s p x = go (s.store.keep_write && keeps_permission s p x.c
         (accounts_plain a (server_after s ds) (MarkDowngradeSent p (s.store.tag p)) tt)
     go false = accounts_nothing a s
 
-met_read : (a : Asked) (p g v : ℕ) (b : List ℕ) (fs : List Message) → a.page ≡ p → None ≡ a.write_grant → Told a (Granted p g v b) fs → Met a a.write_grant fs
-met_read a p g v b fs e k h = subst (λ (w : Option ℕ). Met a w fs) k (g, v, (b, subst (λ (q : ℕ). Told a (Granted q g v b) fs) (sym e) h))
+met_read : (a : Asked) (p g v : ℕ) (b : List ℕ) (fs : List Message) → a.page ≡ p → None ≡ a.write_grant → Told a (Granted p g v b) fs → AskMet a a.write_grant fs
+met_read a p g v b fs e k h = subst (λ (w : Option ℕ). AskMet a w fs) k (g, v, (b, subst (λ (q : ℕ). Told a (Granted q g v b) fs) (sym e) h))
 
-met_write : (a : Asked) (p g t : ℕ) (fs : List Message) → a.page ≡ p → Some g ≡ a.write_grant → t ≡ a.txn → Told a (MayWrite t p g) fs → Met a a.write_grant fs
-met_write a p g t fs e k u h = subst (λ (w : Option ℕ). Met a w fs) k (subst (λ (q : ℕ). Told a (MayWrite a.txn q g) fs) (sym e) (subst (λ (y : ℕ). Told a (MayWrite y p g) fs) u h))
+met_write : (a : Asked) (p g t : ℕ) (fs : List Message) → a.page ≡ p → Some g ≡ a.write_grant → t ≡ a.txn → Told a (MayWrite t p g) fs → AskMet a a.write_grant fs
+met_write a p g t fs e k u h = subst (λ (w : Option ℕ). AskMet a w fs) k (subst (λ (q : ℕ). Told a (MayWrite a.txn q g) fs) (sym e) (subst (λ (y : ℕ). Told a (MayWrite y p g) fs) u h))
 
 accounts_decide : (a : Asked) (cycle : DeadlockTest) (s : Server) (p : ℕ) (q : List WaitingAsk) → s.queue p ≡ q → Accounted a s (decision_steps (decide cycle s p q))
 accounts_decide a cycle s p [] e = accounts_nothing a s
@@ -427,6 +427,6 @@ asks_answered cycle s i p c w h = elim (accounts_input a cycle s i (record { sta
     a : Asked
     a = record { page = p; client = c; write_grant = w; incarnation = (s.session c).current; txn = (s.session c).txn }
 
-    met : (r : Option ℕ) → Met a r (messages_sent (input_steps cycle s i)) → IsMet s p c r (messages_sent (input_steps cycle s i))
+    met : (r : Option ℕ) → AskMet a r (messages_sent (input_steps cycle s i)) → IsMet s p c r (messages_sent (input_steps cycle s i))
     met None m = m
     met (Some g) m = m

@@ -22,7 +22,6 @@ ghost use Rattle.cb_server.specs.Taking.{is_exhaustion, may_want_memory, may_wan
 mod answers;
 mod asks;
 mod commit;
-mod copying;
 
 use crate::server_fault::ServerFault;
 use cb_callbacks::Callbacks;

@@ -9,8 +9,8 @@ ghost use Rattle.cb_server.specs.ServerValue.{IsResumed, commits_of, server_of};
 ghost use Rattle.cb_world.specs.NextLife.{FitsStore, IsNewFloorOf, LeavesStore};
 
 use cb_commit::{Commit, Commits, Store};
-use cb_frame::{Write, Writes};
-use cb_page::{Incarnation, Limits, Page};
+use cb_frame::Writes;
+use cb_page::{Incarnation, Limits};
 use cb_server::Server;
 use std::alloc::{AllocError, Global};
 
@@ -89,26 +89,11 @@ fn store_on_disk(
 {
     let mut written = Commits::new(alloc, limits, opening.copy(alloc)?)?;
     for commit in commits {
-        let writes = copy_writes(alloc, commit.writes.as_slice())?;
+        let writes = Writes::copy_of(alloc, commit.writes.as_slice())?;
         let applied = written.apply(commit.client, commit.incarnation, commit.txn, writes);
         if applied.is_err() {
             return Err(AllocError);
         }
     }
     written.store().copy(alloc)
-}
-
-/// A copy of each write.
-fn copy_writes(alloc: Global, writes: &[Write]) -> Result<Writes, AllocError>
-    ensures { IfOk result (λ copies. copies ≡ writes.now) }
-{
-    let mut copies = Vec::with_capacity(alloc, writes.len())?;
-    for write in writes {
-        copies.push(Write {
-            page: write.page,
-            grant: write.grant,
-            bytes: Page::copy_of(alloc, write.bytes.as_slice())?,
-        })?;
-    }
-    Ok(Writes::from_vec(copies))
 }

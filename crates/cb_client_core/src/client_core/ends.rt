@@ -25,11 +25,7 @@ impl<Q: Chooser> ClientCore<Q> {
         requires { IsNumber txn }
         ensures { result ≡ of_committing_txn (client_of (client_in self.now) []) txn }
     {
-        let same = match self.txn {
-            Some(last) => last == txn,
-            None => false,
-        };
-        self.stage == Stage::Committing && same
+        self.stage == Stage::Committing && self.is_last_txn(txn)
     }
 
     /// The commit is on disk. Returns the frames of the transaction's end.

@@ -102,16 +102,23 @@ impl<Q: Chooser> ClientCore<Q> {
         due.give_down()
     }
 
+    /// Whether the last transaction that began is that one.
+    pub(super) fn is_last_txn(&self, txn: TxnNo) -> bool
+        requires { IsNumber txn }
+        ensures { result ≡ (unwrap_or self.now.txn 0 == txn) }
+    {
+        match self.txn {
+            Some(last) => last == txn,
+            None => false,
+        }
+    }
+
     /// Whether the open transaction is that one.
     pub(super) fn is_open_txn(&self, txn: TxnNo) -> bool
         requires { IsNumber txn }
         ensures { result ≡ of_open_txn (client_of (client_in self.now) []) txn }
     {
-        let same = match self.txn {
-            Some(last) => last == txn,
-            None => false,
-        };
-        self.stage == Stage::Open && same
+        self.stage == Stage::Open && self.is_last_txn(txn)
     }
 
     /// Whether an ask to write the page is out.

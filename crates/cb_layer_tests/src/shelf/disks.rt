@@ -4,7 +4,8 @@ use crate::shelf::batches::{Writing, writes};
 use cb_commit::Store;
 use cb_page::{Incarnation, Limits, PageNo};
 use cb_shelf::{Life, Shelf, ShelfFault};
-use sqlite::{Alter, Connection, FileStore, Files, Options};
+use cb_test_parts::databases::{connect, files_of};
+use sqlite::{Alter, Connection, Files, Options};
 use sqlite_disk::{Crash, Fuse, Memory};
 use std::alloc::Global;
 
@@ -91,36 +92,16 @@ const OFTEN: Options = Options {
     seed: 1,
 };
 
-/// Opens the database, or gives the files back.
-fn connect(
-    alloc: Global,
-    files: Files<Fuse<Memory>>,
-) -> Result<Connection<FileStore<Fuse<Memory>>>, Files<Fuse<Memory>>> {
-    if !files.may_be_used() {
-        return Err(files);
-    }
-    match Connection::open_files(alloc, files, OFTEN) {
-        Ok(conn) => Ok(conn),
-        Err((_, left)) => Err(left.into_files()),
-    }
-}
-
-/// The store of a connection. It has no clause: of a store over files the prover takes half a
-/// minute for those of `into_store`.
-fn store_of<S: Alter + Drop>(conn: Connection<S>) -> S {
-    conn.into_store()
-}
-
 /// How far a session comes, and the files.
 fn session_over(
     alloc: Global,
     files: Files<Fuse<Memory>>,
     session: ShelfSession<'_>,
 ) -> (SessionEnd, Files<Fuse<Memory>>) {
-    match connect(alloc, files) {
+    match connect(alloc, files, OFTEN) {
         Ok(conn) => {
             let (end, conn) = over(alloc, conn, session);
-            (end, store_of(conn).close())
+            (end, files_of(conn))
         }
         Err(files) => (SessionEnd::Nothing, files),
     }

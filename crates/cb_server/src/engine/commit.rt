@@ -12,7 +12,6 @@ ghost use Rattle.cb_server.specs.Answering.{applies, server_in};
 ghost use Rattle.cb_server.specs.Taking.{is_exhaustion};
 
 use crate::engine::answers::Begun;
-use crate::engine::copying::copy_of;
 use crate::engine::{Engine, Headway};
 use crate::server_fault::ServerFault;
 use cb_frame::{Body, ShortBody, Writes};
@@ -165,7 +164,7 @@ impl Engine {
         let Body::Commit { txn, writes } = body else {
             unreachable!()
         };
-        let copy = copy_of(alloc, writes.as_slice())?;
+        let copy = Writes::copy_of(alloc, writes.as_slice())?;
         Ok(self.apply(client, incarnation, *txn, standing, copy)?)
     }
 

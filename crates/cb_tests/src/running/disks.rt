@@ -10,7 +10,8 @@ use crate::running::hurried::Hurried;
 use crate::running::looking::Looks;
 use crate::running::work::{ShelfTask, Work, WorkEnd, opening, work_on};
 use cb_page::Limits;
-use sqlite::{Alter, Connection, FileStore, Files, Options};
+use cb_test_parts::databases::{connect, files_of};
+use sqlite::{Connection, Files, Options};
 use sqlite_disk::{Crash, Disk, Fuse, Memory};
 use std::alloc::Global;
 use std::sync::Wait;
@@ -53,31 +54,6 @@ const SHORT: Options = Options {
     seed: 1,
 };
 
-/// Opens the database, or gives the files back.
-fn connect<D: Disk + Drop>(
-    alloc: Global,
-    files: Files<D>,
-) -> Result<Connection<FileStore<D>>, Files<D>> {
-    if !files.may_be_used() {
-        return Err(files);
-    }
-    match Connection::open_files(alloc, files, SHORT) {
-        Ok(conn) => Ok(conn),
-        Err((_, left)) => Err(left.into_files()),
-    }
-}
-
-/// The store of a connection. It has no clause: of a store over files the prover takes half a
-/// minute for those of `into_store`.
-fn store_of<S: Alter + Drop>(conn: Connection<S>) -> S {
-    conn.into_store()
-}
-
-/// The files of a connection.
-fn files_of<D: Disk + Drop>(conn: Connection<FileStore<D>>) -> Files<D> {
-    store_of(conn).close()
-}
-
 /// Does this over a new connection to these files.
 fn over<R: Threads + Wait + Clock + Sync, D: Disk + Drop>(
     rt: &R,
@@ -88,7 +64,7 @@ fn over<R: Threads + Wait + Clock + Sync, D: Disk + Drop>(
 ) -> (WorkEnd, Files<D>)
     requires { limits.now.keep_write ≡ false }
 {
-    match connect(alloc, files) {
+    match connect(alloc, files, SHORT) {
         Ok(conn) => {
             let (end, conn) = work_on(rt, alloc, limits, conn, work);
             (end, files_of(conn))

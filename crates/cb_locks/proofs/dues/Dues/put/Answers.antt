@@ -14,4 +14,4 @@ invariant_of-self c =
     c.is_due-was.ensures ∙ ap is_due c.at.ensures ∙ ap (λ (v : List PageDue). is_due (get_or v c.args.page nothing_due)) (sym c.self.view_is) in
     let e : c.recount-self-inside.result + bit (is_due (get_or c.self.inside.entries.items c.args.page nothing_due)) ≡ c.self.inside.count + bit (is_due c.args.due) =
     rw (← was, ← c.is_due-is.ensures) c.recount-self-inside.ensures in
-    rw (c.index.ensures.value, c.flag.ensures, c.is_due-is.ensures) (counted_put _ _ _ c.self.invariant c.args.page c.args.due _ lt e)
+    rw (c.index.ensures.value, c.put.ensures, c.is_due-is.ensures) (counted_put _ _ _ c.self.invariant c.args.page c.args.due _ lt e)
