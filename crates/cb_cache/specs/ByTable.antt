@@ -17,14 +17,14 @@ pub record Does (before : CacheState) (steps : List ClientStep) (after : CacheSt
   pub limits : after.limits ≡ before.limits
   pub references : referred_pages after ≡ referred_pages before
 
--- the same, save that a page is referred to once
+-- the same, save that a page is referred to once, with the pages fixed that were fixed before
 pub record DoesReferring (before : CacheState) (page : ℕ) (steps : List ClientStep)
     (after : CacheState) : Type 0 where
   pub becomes : (client : Client)
       → client_after before.limits.keep_write (client_with before client) steps
       ≡ client_with after (client_after before.limits.keep_write client steps)
   pub limits : after.limits ≡ before.limits
-  pub references : referred_pages after ≡ referred_pages before ++ page ∷ []
+  pub references : referred_pages after ≡ referred_pages before ++ (page, before.pool.fixed) ∷ []
 
 -- the first, of a client whose last transaction has this number
 pub record DoesInTxn (txn : ℕ) (before : CacheState) (steps : List ClientStep)

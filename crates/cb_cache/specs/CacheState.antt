@@ -5,7 +5,7 @@ use Rattle.std.specs.Option.{is_some}
 use Rattle.cb_page.specs.Bounds.{Bounds, AreInRange}
 use Rattle.cb_page.specs.Flags as flags
 use Rattle.cb_pool.specs.PoolState.{PoolState, copy_of, empty_pool, referred}
-use Rattle.cb_twoq.specs.Calls.{references_in}
+use Rattle.cb_twoq.specs.Calls.{References, references_in}
 use Rattle.cb_protocol.specs.Basics.{Bytes}
 use Rattle.cb_protocol.specs.Client.{Client, has_room}
 use Rattle.cb_cache.specs.declared.table.PageCopy.{PageCopy}
@@ -31,8 +31,8 @@ copy_at copies page = row_at copies.rows page
 abbrev pub content_at : CacheState → (page : ℕ) → Option Bytes
 content_at copies page = copy_of copies.pool page
 
--- the pages that were referred to, in their order
-abbrev pub referred_pages : CacheState → List ℕ
+-- the references to pages, in their order, each with the pages that were fixed then
+abbrev pub referred_pages : CacheState → References
 referred_pages copies = references_in copies.pool.calls
 
 -- the copies once a page was referred to, if its bytes are in the pool

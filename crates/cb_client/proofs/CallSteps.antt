@@ -30,7 +30,7 @@ pub record Accepted (v : ClientState) (call : Call) (answered : table.AnswerWord
   pub limits : w.copies.limits ≡ v.copies.limits
   pub same_no : w.no ≡ v.no
   pub same_incarnation : w.incarnation ≡ v.incarnation
-  pub references : references_of w ≡ with_read answered call (references_of v)
+  pub references : references_of w ≡ with_read v answered call (references_of v)
 
 pub accepted : (v w : ClientState) (call : Call) (answered : table.AnswerWord) (steps : List Operation → List ClientStep) (messages : List Message) (history : List Operation → List Operation)
     → Accepted v call answered steps messages history w → Calls v call answered messages history w
@@ -88,9 +88,9 @@ greets v = accepted v v CallHello table.AnsweredOk (λ ops. Say Hello ∷ []) _ 
   references = refl;
 })
 
-peek_refers : (page : ℕ) (bytes : Option Bytes) (pages : List ℕ) → pages ≡ with_read (peek_word bytes) (CallPeek page) pages
-peek_refers page None pages = refl
-peek_refers page (Some bytes) pages = refl
+peek_refers : (v : ClientState) (page : ℕ) (bytes : Option Bytes) → references_of v ≡ with_read v (peek_word bytes) (CallPeek page) (references_of v)
+peek_refers v page None = refl
+peek_refers v page (Some bytes) = refl
 
 pub peeks : (v : ClientState) (page : ℕ) (bytes : Option Bytes) → bytes ≡ content_at v.copies page → Calls v (CallPeek page) (peek_word bytes) [] as_before v
 peeks v page bytes e = accepted v v (CallPeek page) (peek_word bytes) (λ ops. []) [] as_before (record {
@@ -101,7 +101,7 @@ peeks v page bytes e = accepted v v (CallPeek page) (peek_word bytes) (λ ops. [
   limits = refl;
   same_no = refl;
   same_incarnation = refl;
-  references = peek_refers page bytes (references_of v);
+  references = peek_refers v page bytes;
 })
 
 -- the transaction that has begun has a number

@@ -229,7 +229,7 @@ record Brought (v : ClientState) (p : ℕ) (gone : Option ℕ) (st : ClientStep)
       → client_after v.copies.limits.keep_write (client_with v.copies other) (first ++ SetAsk NoAsk ∷ st ∷ more) ≡ client_after v.copies.limits.keep_write (client_with c2 (record other { ask = NoAsk })) more
   says : (more : List ClientStep) → bodies_said (first ++ SetAsk NoAsk ∷ st ∷ more) ≡ said_of_gone c1 v.locks gone ++ bodies_said more
   limits : c2.limits ≡ v.copies.limits
-  references : referred_pages c2 ≡ referred_pages v.copies ++ p ∷ []
+  references : referred_pages c2 ≡ referred_pages v.copies ++ (p, v.copies.pool.fixed) ∷ []
   held : (r : ℕ) → r ≢ p → has v.locks.locked r ≡ true → (copy_at c2 r).held ≡ (copy_at v.copies r).held
   bare : (r : ℕ) → r ≢ p → is_some (copy_at c2 r).held ≡ true → content_at c2 r ≡ None → has v.locks.locked r ≡ true
 

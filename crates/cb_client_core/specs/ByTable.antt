@@ -1,6 +1,7 @@
 -- What a client does, by the protocol's tables.
 use Rattle.std.specs.Prelude.{◌≡◌, ℕ, List, [], ◌∷◌, ◌++◌, map, Option, if◌then◌else◌}
 use Rattle.cb_cache.specs.CacheState.{limits_of, referred_pages}
+use Rattle.cb_twoq.specs.Calls.{References}
 use Rattle.cb_protocol.specs.Answers as table
 use Rattle.cb_protocol.specs.Basics.{Limits}
 use Rattle.cb_protocol.specs.Client.{Client, ClientStep, bodies_said, client_after}
@@ -28,20 +29,26 @@ as_before operations = operations
 abbrev pub over : List Operation → List Operation
 over operations = []
 
--- the pages that the client referred to since its incarnation began, in their order
-abbrev pub references_of : ClientState → List ℕ
+-- the references of the client since its incarnation began, in their order
+abbrev pub references_of : ClientState → References
 references_of client = referred_pages client.copies
 
+-- the references with one more, to this page, with the pages fixed that the client has fixed
+abbrev pub with_reference_to : ClientState → (page : ℕ) → References → References
+with_reference_to client page references = references ++ (page, client.copies.pool.fixed) ∷ []
+
 -- the references once a call was answered so: a page that was read is one more
-abbrev pub with_read : table.AnswerWord → Call → List ℕ → List ℕ
-with_read (table.AnsweredBytes bytes) (CallRead page) pages = pages ++ page ∷ []
-with_read _ _ pages = pages
+abbrev pub with_read : ClientState → table.AnswerWord → Call → References → References
+with_read client (table.AnsweredBytes bytes) (CallRead page) references =
+    with_reference_to client page references
+with_read client _ _ references = references
 
 -- the references once a message was taken: a page that it brings into the pool is one more
-abbrev pub with_brought : ClientState → Body → List ℕ → List ℕ
-with_brought client (Granted page grant version bytes) pages =
-    if brings_in client (Granted page grant version bytes) then pages ++ page ∷ [] else pages
-with_brought _ _ pages = pages
+abbrev pub with_brought : ClientState → Body → References → References
+with_brought client (Granted page grant version bytes) references =
+    if brings_in client (Granted page grant version bytes)
+    then with_reference_to client page references else references
+with_brought client _ references = references
 
 -- The client makes these steps, which say those messages, and becomes the new one, whatever
 -- operations its transaction did; `history` is what becomes of these.
@@ -66,7 +73,7 @@ pub record Calls (old : ClientState) (call : Call) (answered : table.AnswerWord)
       → (client_call (limits_at old) (client_of old operations) call).word ≡ answered
   pub makes : Makes old (λ client. (client_call (limits_at old) client call).steps) messages history
       new
-  pub references : references_of new ≡ with_read answered call (references_of old)
+  pub references : references_of new ≡ with_read old answered call (references_of old)
 
 -- This message is taken as the protocol's table of messages says, at some page that its pool may
 -- let go. Only one that brings a page into the pool is a reference, to that page.

@@ -23,14 +23,14 @@ module _ {Q : Type 0} (choose : chooser.Ghosts Q) where
   }
 
 -- a reference is one more, a removal is none
-pub refers_more : (calls : Calls) (page : ℕ) (fixed : List Bool) → references_in (calls ++ (Reference page, fixed) ∷ []) ≡ references_in calls ++ page ∷ []
+pub refers_more : (calls : Calls) (page : ℕ) (fixed : List Bool) → references_in (calls ++ (Reference page, fixed) ∷ []) ≡ references_in calls ++ (page, fixed) ∷ []
 refers_more [] page fixed = refl
-refers_more ((Reference other, was) ∷ calls) page fixed = ap (λ pages. other ∷ pages) (refers_more calls page fixed)
+refers_more ((Reference other, was) ∷ calls) page fixed = ap (λ rest. (other, was) ∷ rest) (refers_more calls page fixed)
 refers_more ((Forget other, was) ∷ calls) page fixed = refers_more calls page fixed
 
 pub refers_none : (calls : Calls) (page : ℕ) (fixed : List Bool) → references_in (calls ++ (Forget page, fixed) ∷ []) ≡ references_in calls
 refers_none [] page fixed = refl
-refers_none ((Reference other, was) ∷ calls) page fixed = ap (λ pages. other ∷ pages) (refers_none calls page fixed)
+refers_none ((Reference other, was) ∷ calls) page fixed = ap (λ rest. (other, was) ∷ rest) (refers_none calls page fixed)
 refers_none ((Forget other, was) ∷ calls) page fixed = refers_none calls page fixed
 
 -- 2Q as a chooser

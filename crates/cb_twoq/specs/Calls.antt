@@ -9,10 +9,14 @@ use Rattle.cb_twoq.specs.declared.chooser.ChooserCall.TheVariants.{Reference, Fo
 abbrev pub Calls : Type 0
 Calls = List (ChooserCall × List Bool)
 
--- the pages of which these calls are references, in their order
-abbrev pub references_in : Calls → List ℕ
+-- pages that were referred to, the first one first, each with the pages that were fixed then
+abbrev pub References : Type 0
+References = List (ℕ × List Bool)
+
+-- the references among these calls
+abbrev pub references_in : Calls → References
 references_in [] = []
-references_in ((Reference page, fixed) ∷ calls) = page ∷ references_in calls
+references_in ((Reference page, fixed) ∷ calls) = (page, fixed) ∷ references_in calls
 references_in ((Forget page, fixed) ∷ calls) = references_in calls
 
 module _ {Q : Type 0} (choose : chooser.Ghosts Q) where

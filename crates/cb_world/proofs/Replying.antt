@@ -213,7 +213,7 @@ called_so old new call word messages called answers = record {
     no = called.calls.makes.no;
     incarnation = called.calls.makes.incarnation;
   };
-  references = called.calls.references ∙ ap (λ (a : table.AnswerWord). with_read a call (references_of old)) (sym (called.calls.word []) ∙ answers.word []);
+  references = called.calls.references ∙ ap (λ (a : table.AnswerWord). with_read old a call (references_of old)) (sym (called.calls.word []) ∙ answers.word []);
 }
 
 -- a read that found the page's bytes
