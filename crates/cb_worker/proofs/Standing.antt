@@ -9,14 +9,14 @@ use Rattle.cb_client_core.specs.declared.stage.Stage.TheVariants as stages
 use Rattle.cb_protocol.proofs.PagesStay.{last_outcome_is_true}
 use Rattle.cb_protocol.specs.Answers as table
 use Rattle.cb_protocol.specs.Cache.{Committing, Idle, Open, TransactionState, is_committing}
-use Rattle.cb_protocol.specs.Client.{Ask, Client, Dropped, StatusCommitting, StatusIdle, StatusNotWelcome, StatusOpen, StatusWaiting, client_status, is_asking, welcomed_status}
+use Rattle.cb_protocol.specs.Client.{Aborted, Ask, Client, Dropped, LastOutcome, StatusCommitting, StatusIdle, StatusNotWelcome, StatusOpen, StatusWaiting, client_status, is_asking, welcomed_status}
 use Rattle.cb_protocol.specs.ClientAlone.{ReceivesCall}
 use Rattle.cb_protocol.specs.ClientCalls.{CallDrop, accept_or_refuse, call_fault, client_call, first_refusal, open_causes}
 use Rattle.cb_protocol.specs.Messages.{Message}
 use Rattle.cb_protocol.specs.Serial.{Operation}
 use Rattle.cb_worker.specs.Committing.{IsCommitting}
 use Rattle.cb_worker.specs.Waiting.{IsFinished, ending_of}
-use Rattle.cb_worker.specs.Workers.{Ended, HasTransaction, IsIdle, WorkerState}
+use Rattle.cb_worker.specs.Workers.{Ended, HasTransaction, IsIdle, WasAborted, WorkerState}
 use Rattle.cb_worker.specs.declared.answers.Finished.{Finished}
 
 committing : (w : Bool) (s : TransactionState) (a : Ask) → StatusCommitting ≡ (if not w then StatusNotWelcome else welcomed_status s a) → is_committing s ≡ true
@@ -100,6 +100,28 @@ welcomed_so v s says_so n = go v.welcomed refl
     go true f = f
     go false f = absurd (n (unsaid s (rw f at (says_so []))))
 
+said_idle : (s : says.ClientStatus) → status_of s ≡ StatusIdle → s ≡ statuses.Idle
+said_idle statuses.NotWelcome e = absurd cc
+said_idle statuses.Idle e = refl
+said_idle statuses.Open e = absurd cc
+said_idle statuses.Waiting e = absurd cc
+said_idle statuses.Committing e = absurd cc
+
+resting : (k : Client) → k.cache.welcomed ≡ true → k.cache.status ≡ Idle → client_status k ≡ StatusIdle
+resting k f e = rw (f, e) refl
+
+-- one that says anything but that it is idle has no aborted transaction
+pub going_on : (w : WorkerState) (s : says.ClientStatus) → ((ops : List Operation) → status_of s ≡ client_status (client_of w.client ops)) → s ≢ statuses.Idle → ¬ WasAborted w
+going_on w s says_so n was = n (said_idle s (says_so [] ∙ resting (client_of w.client []) was.welcomed (was.ended.idle [])))
+
+-- nor has one that says that the last one ended in another way
+pub ended_else : (w : WorkerState) (last : Option Outcome) → ((ops : List Operation) → outcome_of last ≡ (client_of w.client ops).last_outcome) → outcome_of last ≢ Aborted → ¬ WasAborted w
+ended_else w last says_so n was = n (says_so [] ∙ was.ended.so [])
+
+-- nor has one whose last transaction ended in another way
+pub ended_once : (w : WorkerState) (o : LastOutcome) → Ended w o → o ≢ Aborted → ¬ WasAborted w
+ended_once w o ended n was = n (sym (ended.so []) ∙ was.ended.so [])
+
 -- how the last transaction ended, by what the client says of it
 pub finished_so : (w : WorkerState) (last : Outcome) (r : Option Finished) → IsIdle w → ((ops : List Operation) → outcome_of (Some last) ≡ (client_of w.client ops).last_outcome)
     → IfSome r (λ finished. outcome_of (Some last) ≡ ending_of finished) → IfSome r (IsFinished w)
@@ -119,16 +141,6 @@ unwelcomed true Committing a e = absurd cc
 -- one that says that it isn't welcomed isn't
 pub unwelcomed_so : (v : ClientState) (s : says.ClientStatus) → ((ops : List Operation) → status_of s ≡ client_status (client_of v ops)) → s ≡ statuses.NotWelcome → v.welcomed ≡ false
 unwelcomed_so v s says_so is = unwelcomed v.welcomed (client_of v []).cache.status (client_of v []).ask (rw is at (says_so []))
-
-said_idle : (s : says.ClientStatus) → status_of s ≡ StatusIdle → s ≡ statuses.Idle
-said_idle statuses.NotWelcome e = absurd cc
-said_idle statuses.Idle e = refl
-said_idle statuses.Open e = absurd cc
-said_idle statuses.Waiting e = absurd cc
-said_idle statuses.Committing e = absurd cc
-
-resting : (k : Client) → k.cache.welcomed ≡ true → k.cache.status ≡ Idle → client_status k ≡ StatusIdle
-resting k f e = rw (f, e) refl
 
 -- one that says neither that it isn't welcomed nor that it is idle has a transaction
 pub busy_so : (w : WorkerState) (s : says.ClientStatus) → ((ops : List Operation) → status_of s ≡ client_status (client_of w.client ops)) → s ≢ statuses.NotWelcome → s ≢ statuses.Idle → HasTransaction w

@@ -43,7 +43,7 @@ use Rattle.cb_worker.specs.Turns.{AfterCollecting, Collects, HandsIn, TakesColle
 use Rattle.cb_worker.specs.Workers.{IsOf, WorkerState, after_hit, last_txn, may_hit, seen_by, with_client}
 use Rattle.cb_worker.specs.Asking.{frame_of}
 use Rattle.cb_worker.specs.Keeping.{KeepsFixed}
-use Rattle.cb_worker.specs.Moving.{CallClient, Commit, IsStill, Move, Moved, Moves, MovesBy, ReadAtHand, Turn}
+use Rattle.cb_worker.specs.Moving.{CallClient, Commit, IsStill, Moved, MovesBy, ReadAtHand, Turn}
 use Rattle.cb_worker.specs.declared.worker_fault.WorkerFault.{WorkerFault}
 use Rattle.cb_worker.specs.declared.worker_fault.WorkerFault.TheVariants as worker
 

@@ -1,6 +1,6 @@
 -- Why the calls that take the office are refused. What lies under its lock no clause of a call that
 -- takes it can name: so each cause is one at some station, of which all holds that always does.
-use Rattle.std.specs.Prelude.{◌≡◌, ◌≤◌, ◌⊎◌, ℕ, true, false, None, Ok, Err, ⊤}
+use Rattle.std.specs.Prelude.{◌≡◌, ◌≤◌, ◌⊎◌, ℕ, true, false, None, Err, ⊤}
 use Rattle.std.specs.Option.{is_some}
 use Rattle.cb_client.specs.ByTable.{IsRefusal, IsRefused}
 use Rattle.cb_client.specs.declared.client_fault.ClientFault.TheVariants as client
@@ -17,7 +17,7 @@ use Rattle.cb_worker.specs.Moving.{HasJoined, IsStill}
 use Rattle.cb_worker.specs.Serving.{HandsOne, Turning, TurnsThen}
 use Rattle.cb_worker.specs.Turns.{Turns}
 use Rattle.cb_worker.specs.Waiting.{LacksTransaction}
-use Rattle.cb_worker.specs.Workers.{HasTransaction, WorkerState, shows_copy}
+use Rattle.cb_worker.specs.Workers.{HasTransaction, WasAborted, WorkerState, shows_copy}
 use Rattle.cb_worker.specs.declared.worker_fault.WorkerFault.{WorkerFault}
 use Rattle.cb_worker.specs.declared.worker_fault.WorkerFault.TheVariants as worker
 
@@ -48,9 +48,10 @@ StopsServing new fault = (old : WorkerState) × StopsAt Turns old new fault
 abbrev pub RefusesAny : (old new : WorkerState) → WorkerFault → Type 0
 RefusesAny old new fault = (LacksTransaction old fault × (new ≡ old)) ⊎ StopsServing new fault
 
--- the client, as it is left, refuses the call so: never for want of memory
+-- The client, as it is left, refuses the call so, never for want of memory. Its transaction wasn't
+-- aborted: a call that finds it so says that.
 abbrev pub RefusesCall : (new : WorkerState) → Call → WorkerFault → Type 0
-RefusesCall new call (worker.Client fault) = IsRefused new.client call fault
+RefusesCall new call (worker.Client fault) = IsRefused new.client call fault × ¬ WasAborted new
 RefusesCall new call _ = ⊥
 
 -- the client has the page's bytes, and the hand doesn't show its copy
@@ -91,10 +92,11 @@ abbrev pub RefusesDrop : (old new : WorkerState) → WorkerFault → Type 0
 RefusesDrop old new fault =
     RefusesAny old new fault ⊎ RefusesToDrop new fault ⊎ StopsDrop old new fault
 
--- A commit was refused so, at a station of which all holds that always does, and left the worker
--- thus.
+-- A commit of a transaction that wasn't aborted was refused so, and left the worker thus. The
+-- station was one of which all holds that always does.
 pub record RefusesCommit (new : WorkerState) (fault : WorkerFault) : Type 0 where
   pub old : WorkerState
+  pub going : ¬ WasAborted old
   pub before : StationState
   pub sound : IsStation before
   pub after : StationState

@@ -9,7 +9,7 @@ use Rattle.cb_hands.specs.declared.grant.Held.{Held}
 use Rattle.cb_protocol.specs.Answers.{AnsweredBytes}
 use Rattle.cb_protocol.specs.Basics.{Bytes}
 use Rattle.cb_protocol.specs.Cache.{Idle}
-use Rattle.cb_protocol.specs.Client.{Client, LastOutcome}
+use Rattle.cb_protocol.specs.Client.{Aborted, Client, LastOutcome}
 use Rattle.cb_protocol.specs.ClientCalls.{CallRead}
 use Rattle.cb_protocol.specs.Serial.{Operation}
 
@@ -94,6 +94,11 @@ pub record Ended (worker : WorkerState) (outcome : LastOutcome) : Type 0 where
   pub idle : IsIdle worker
   pub so : (operations : List Operation)
       → (client_of worker.client operations).last_outcome ≡ outcome
+
+-- The client is welcomed, and its last transaction is over and was aborted.
+pub record WasAborted (worker : WorkerState) : Type 0 where
+  pub welcomed : worker.client.welcomed ≡ true
+  pub ended : Ended worker Aborted
 
 -- The transaction that was open or committing is over, and ended so: none began since.
 pub record Ends (old new : WorkerState) (outcome : LastOutcome) : Type 0 where

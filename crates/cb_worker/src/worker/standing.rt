@@ -1,10 +1,11 @@
 //! What the client says of its transaction.
-ghost use Rattle.std.specs.Prelude.{◌≡◌, ◌↔◌, true, IfErr, IfSome, IsTrue, OkIff, Some};
+ghost use Rattle.std.specs.Prelude.{◌≡◌, ◌≢◌, ◌↔◌, true, IfErr, IfSome, IsSome};
+ghost use Rattle.std.specs.Prelude.{IsTrue, None, OkIff, Some};
 ghost use Rattle.cb_client_core.specs.ClientState.{outcome_of};
 ghost use Rattle.cb_protocol.specs.Client as protocol;
 ghost use Rattle.cb_worker.specs.Committing.{IsCommitting};
 ghost use Rattle.cb_worker.specs.Waiting.{IsFinished, LacksTransaction, ending_of};
-ghost use Rattle.cb_worker.specs.Workers.{Ended, HasTransaction};
+ghost use Rattle.cb_worker.specs.Workers.{Ended, HasTransaction, WasAborted};
 
 use crate::answers::Finished;
 use crate::awaited::Came;
@@ -48,7 +49,9 @@ impl<Q: Chooser> Worker<Q> {
 
     /// How the last transaction ended, where that one is over and was not dropped.
     pub(super) fn ended(&self) -> Option<Finished>
-        ensures { IfSome result (IsFinished self.now) }
+        ensures so { IfSome result (IsFinished self.now) }
+        ensures welcomed { IsSome result → self.now.client.welcomed ≡ true }
+        ensures none { result ≡ None → ¬ WasAborted self.now }
     {
         let ClientStatus::Idle = self.client.status() else {
             return None;
@@ -58,12 +61,13 @@ impl<Q: Chooser> Worker<Q> {
 
     /// Whether the last transaction is over and was aborted.
     pub(super) fn is_aborted(&self) -> bool
-        ensures { IsTrue result → Ended self.now protocol.Aborted }
+        ensures { IsTrue result ↔ WasAborted self.now }
     {
-        let Some(Finished::Aborted) = self.ended() else {
-            return false;
-        };
-        true
+        match self.ended() {
+            Some(Finished::Aborted) => true,
+            Some(Finished::Committed(_)) => false,
+            None => false,
+        }
     }
 
     /// That the last transaction is over and was aborted, where it was.
@@ -80,7 +84,8 @@ impl<Q: Chooser> Worker<Q> {
 
 /// How a transaction ended that was not dropped.
 fn finished_by(last: Outcome) -> Option<Finished>
-    ensures { IfSome result (λ finished. outcome_of (Some last) ≡ ending_of finished) }
+    ensures so { IfSome result (λ finished. outcome_of (Some last) ≡ ending_of finished) }
+    ensures none { result ≡ None → outcome_of (Some last) ≢ protocol.Aborted }
 {
     match last {
         Outcome::Committed(number) => Some(Finished::Committed(number)),

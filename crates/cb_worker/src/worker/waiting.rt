@@ -23,8 +23,8 @@ ghost use Rattle.cb_worker.specs.Serving.{HandsAllIn, HandsInAndTells, HandsOne,
 ghost use Rattle.cb_worker.specs.Serving.{ServesAndTells, ServesSome};
 ghost use Rattle.cb_worker.specs.Steps.{Begun, Comes, RefusesToBegin, StopsOr};
 ghost use Rattle.cb_worker.specs.Waiting.{Fetches, Finishes, HasRead, IsServed, Wants};
-ghost use Rattle.cb_worker.specs.Workers.{Ended, Ends, HasTransaction, ReadsAtHand, WorkerState};
-ghost use Rattle.cb_worker.specs.Workers.{after_hit, may_hit, seen_by};
+ghost use Rattle.cb_worker.specs.Workers.{Ended, Ends, HasTransaction, ReadsAtHand, WasAborted};
+ghost use Rattle.cb_worker.specs.Workers.{WorkerState, after_hit, may_hit, seen_by};
 
 use crate::answers::{Fetched, Finished, Wanted};
 use crate::awaited::{Awaited, Came};
@@ -152,8 +152,7 @@ impl<Q: Chooser> Worker<Q> {
     ) -> Result<bool, WorkerFault>
         requires { IsKnown known station.old self.old.hand }
         ensures known { IsKnown known station.new self.new.hand }
-        ensures aborted { IfOk result (λ aborted.
-            IsTrue aborted → Ended self.new protocol.Aborted) }
+        ensures aborted { IfOk result (λ aborted. IsTrue aborted ↔ WasAborted self.new) }
         ensures served { OnOk result (IsServed self.new) }
         ensures still { IsStill self.old self.new }
         ensures used { KeepsUsed (seen_by self.old) (seen_by self.new) }
@@ -249,7 +248,8 @@ impl<Q: Chooser> Worker<Q> {
     /// Reads the page if its bytes and the hand's copy of it are here, and says whether it did.
     /// Otherwise the client asks for it.
     fn read_or_ask(&mut self, page: PageNo) -> Result<bool, WorkerFault>
-        requires { self.old.said ≡ [] }
+        requires silent { self.old.said ≡ [] }
+        requires going { ¬ WasAborted self.old }
         ensures still { IsStill self.old self.new }
         ensures hand { self.new.hand ≡ self.old.hand }
         ensures reads { IfOk result (λ read. MatchBool read (ReadsAtHand self.old page self.new)
@@ -338,7 +338,8 @@ impl<Q: Chooser> Worker<Q> {
 
     /// The client asks to write the page, and for the permission if it hasn't got it.
     fn ask_to_write(&mut self, page: PageNo) -> Result<(), WorkerFault>
-        requires { self.old.said ≡ [] }
+        requires silent { self.old.said ≡ [] }
+        requires going { ¬ WasAborted self.old }
         ensures still { IsStill self.old self.new }
         ensures hand { self.new.hand ≡ self.old.hand }
         ensures asks { OnOk result (AsksToWrite self.old page self.new) }
@@ -396,7 +397,8 @@ impl<Q: Chooser> Worker<Q> {
 
     /// The client drops its transaction. The frames that it sends are kept.
     fn drop_open(&mut self, alloc: Global) -> Result<(), WorkerFault>
-        requires { self.old.said ≡ [] }
+        requires silent { self.old.said ≡ [] }
+        requires going { ¬ WasAborted self.old }
         ensures dropped { OnOk result (Ended self.new protocol.Dropped) }
         ensures says { OnOk result (SaysDrop self.old self.new) }
         ensures still { IsStill self.old self.new }

@@ -34,10 +34,10 @@ returns-in_err-_number-clause-told g c =
 pub returns-in_err-_number-clause-refused : goal.returns-in_err-_number-clause-refused
 returns-in_err-_number-clause-refused g c =
     let is : c.from_residual-in_err-_number.result ≡ Err c.in_err-_number.field-0.0 = search rules in
-    rw is (inr (record { old = c.serve_knowing.new.self; before = c.serve_knowing.new.station; sound = c.history-known.ensures.sound; after = c.commit_by.new.station; commits = c.in_err-_number.ensures }))
+    rw is (inr (record { old = c.serve_knowing.new.self; going = c.ended.ensures.none c.in_default.is; before = c.serve_knowing.new.station; sound = c.history-known.ensures.sound; after = c.commit_by.new.station; commits = c.in_err-_number.ensures }))
 
 pub returns-in-Some-clause-begun : goal.returns-in-Some-clause-begun
-returns-in-Some-clause-begun g c = inl (was_over c.args.self.now c.serve_knowing.new.self c.serve_knowing.ensures.goes c.in-Some.ensures.idle)
+returns-in-Some-clause-begun g c = inl (was_over c.args.self.now c.serve_knowing.new.self c.serve_knowing.ensures.goes c.in-Some.ensures.so.idle)
 
 pub returns-clause-begun : goal.returns-clause-begun
 returns-clause-begun g c =

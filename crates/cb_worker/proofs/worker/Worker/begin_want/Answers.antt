@@ -11,7 +11,7 @@ use Rattle.cb_worker.proofs.worker.Worker.begin_want.Goals as goal
 pub returns-then-aborted-clause-begun : goal.returns-then-aborted-clause-begun
 returns-then-aborted-clause-begun g c =
     let aborted : IsTrue c.in_ok-aborted.aborted = search rules in
-    wanted_over c.args.self.now c.serve_first.new.self c.args.page (c.in_ok-aborted.ensures.aborted aborted).idle
+    wanted_over c.args.self.now c.serve_first.new.self c.args.page (c.in_ok-aborted.ensures.aborted.0 aborted).ended.idle
 
 pub returns-clause-begun : goal.returns-clause-begun
 returns-clause-begun g c =

@@ -8,7 +8,7 @@ use Rattle.cb_worker.proofs.worker.Worker.drop_at.Goals as goal
 pub returns-then-branch-clause-dropped : goal.returns-then-branch-clause-dropped
 returns-then-branch-clause-dropped g c =
     let aborted : IsTrue c.in_ok-serve_first.field-0 = search rules in
-    inr (c.in_ok-serve_first.ensures.aborted aborted)
+    inr (c.in_ok-serve_first.ensures.aborted.0 aborted).ended
 
 pub returns-clause-dropped : goal.returns-clause-dropped
 returns-clause-dropped g c =

@@ -39,21 +39,21 @@ returns-in_default-clause-reads g c =
 pub returns-then-shown-clause-still : goal.returns-then-shown-clause-still
 returns-then-shown-clause-still g c =
     let a : AnswersRead c.self.inside.client c.args.page (Ok (read.Bytes c.in-Bytes.field-0)) = rw c.in-Bytes.is at c.in_ok-read.ensures.answer in
-    let none : c.self.inside.said ≡ [] = rw (← c.self.view_is) at c.requires in
+    let none : c.self.inside.said ≡ [] = rw (← c.self.view_is) at c.requires.silent in
     rw (← c.self.view_is) (read_still (record { client = c.self.inside.client; hand = c.self.inside.hand; collected = c.self.inside.collected; said = c.self.inside.said }) _ c.args.page c.in_ok-read.ensures.by_table c.read.follows.holds-at-none
     (behind_nothing c.self.inside.said c.self.inside.said c.in_ok-read.ensures.by_table.messages none (ap (λ (l : List Frame). messages_of l) none ∙ sym (says_nothing c.self.inside.client c.args.page c.in-Bytes.field-0.now c.in_ok-read.ensures.by_table a))) refl)
 
 pub returns-in-Bytes-clause-still : goal.returns-in-Bytes-clause-still
 returns-in-Bytes-clause-still g c =
     let a : AnswersRead c.self.inside.client c.args.page (Ok (read.Bytes c.in-Bytes.field-0)) = rw c.in-Bytes.is at c.in_ok-read.ensures.answer in
-    let none : c.self.inside.said ≡ [] = rw (← c.self.view_is) at c.requires in
+    let none : c.self.inside.said ≡ [] = rw (← c.self.view_is) at c.requires.silent in
     rw (← c.self.view_is) (read_still (record { client = c.self.inside.client; hand = c.self.inside.hand; collected = c.self.inside.collected; said = c.self.inside.said }) _ c.args.page c.in_ok-read.ensures.by_table c.read.follows.holds-at-none
     (behind_nothing c.self.inside.said c.self.inside.said c.in_ok-read.ensures.by_table.messages none (ap (λ (l : List Frame). messages_of l) none ∙ sym (says_nothing c.self.inside.client c.args.page c.in-Bytes.field-0.now c.in_ok-read.ensures.by_table a))) refl)
 
 pub returns-in-Some-clause-still : goal.returns-in-Some-clause-still
 returns-in-Some-clause-still g c =
     let a : AnswersRead c.self.inside.client c.args.page (Ok read.Asked) = rw c.in-Asked.is at c.in_ok-read.ensures.answer in
-    let none : c.self.inside.said ≡ [] = rw (← c.self.view_is) at c.requires in
+    let none : c.self.inside.said ≡ [] = rw (← c.self.view_is) at c.requires.silent in
     let asks = asks_for (record { client = c.self.inside.client; hand = c.self.inside.hand; collected = c.self.inside.collected; said = c.self.inside.said }) (record { client = c.read.follows.lender-at-none; hand = c.self.inside.hand; collected = c.self.inside.collected; said = c.keep.new.self }) c.args.page c.in-Some.ask a c.read.follows.holds-at-none c.in-Some.ensures.by_table c.keep.ensures in
     rw (← c.self.view_is) (read_still (record { client = c.self.inside.client; hand = c.self.inside.hand; collected = c.self.inside.collected; said = c.self.inside.said }) (record { client = c.read.follows.lender-at-none; hand = c.self.inside.hand; collected = c.self.inside.collected; said = c.keep.new.self }) c.args.page c.in_ok-read.ensures.by_table c.read.follows.holds-at-none
     (behind_nothing c.self.inside.said c.keep.new.self c.in_ok-read.ensures.by_table.messages none (asks.said ∙ sym (says_ask c.self.inside.client c.args.page c.in_ok-read.ensures.by_table a))) refl)
