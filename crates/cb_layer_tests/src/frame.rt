@@ -1,3 +1,4 @@
 //! Pages and frames.
 
 mod refused;
+mod used;

@@ -12,7 +12,9 @@
 //! The promise of each call stands in the call's own crate: `cb_transcript` and
 //! `cb_world`. The limits, the store and the chooser of which a world is made are exported too. So
 //! are the laws of worlds: [`copies_are_backed_by_rows`], [`written_pages_are_alone`],
-//! [`readable_copies_agree`], [`writer_is_alone`] and [`committed_transactions_are_serial`].
+//! [`readable_copies_agree`], [`writer_is_alone`] and [`committed_transactions_are_serial`]. The
+//! passes of their proof are laws, too: [`held_grants_have_rows`], [`writers_have_permission`],
+//! [`held_pages_are_the_stores`] and [`commits_on_their_way_keep_their_rows`].
 //!
 //! An example, which is compiled and run as the test `example` of `cb_layer_tests`:
 //!
@@ -30,6 +32,10 @@
 pub use cb_commit::Store;
 pub use cb_laws::written_pages_are_alone;
 pub use cb_page::{Incarnation, Limits};
+pub use cb_protocol::passes::{
+    commits_on_their_way_keep_their_rows, held_grants_have_rows, held_pages_are_the_stores,
+    writers_have_permission,
+};
 pub use cb_protocol::{
     committed_transactions_are_serial, copies_are_backed_by_rows, readable_copies_agree,
     writer_is_alone,

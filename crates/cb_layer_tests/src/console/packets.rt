@@ -39,13 +39,30 @@ const TWO_READERS: &str = "begin 0\nbegin 1\nread 0 5\nread 1 5\ntake 5\ntake 4\
 const IN_USE: &str = "begin 0\nread 0 0\ntake 4\ntake 5\nread 0 0\nbegin 1\nread 1 0\ntake 6\n\
      take 7\nwant 1 0\ntake 8\ntake 9\ntake 10\nfinish 0\ntake 11\nflush\ntake 12\ntake 13\n";
 
-static CASES: [Case; 5] = [
+/// Client 0 reads page 5, which nobody wrote.
+const FIRST_READ: &str = "hello 0\ntake 0\ntake 1\nbegin 0\nread 0 5\ntake 2\ntake 3\nread 0 5\n";
+
+static CASES: [Case; 6] = [
     // No packet.
     Case {
         clients: 1,
         texts: ["", ""],
         sent: &[],
         count: 0,
+    },
+    // Client 0 is granted page 5 by grant 1: version 0, zeros.
+    Case {
+        clients: 1,
+        texts: [FIRST_READ, ""],
+        sent: &[(
+            &[3],
+            &[
+                2, 66, 0, 0, 0, 0, 0, 0, 0, 0, 0, 1, 0, 0, 0, 40, 0, 0, 0, 5, 0, 0, 0, 0, 0, 0, 0,
+                1, 0, 0, 0, 0, 0, 0, 0, 0, 0, 0, 0, 16, 0, 0, 0, 0, 0, 0, 0, 0, 0, 0, 0, 0, 0, 0,
+                0, 0,
+            ],
+        )],
+        count: 4,
     },
     // Client 0 is granted page 0 by grant 1: version 0, zeros; and by grant 3: version 1, sevens.
     Case {
