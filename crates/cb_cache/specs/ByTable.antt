@@ -5,7 +5,7 @@ use Rattle.cb_protocol.specs.Cache.{Fill, Install, MakeBare}
 use Rattle.cb_protocol.specs.Client.{ChangeCache, Client, ClientStep, client_after}
 use Rattle.cb_protocol.specs.ClientMessages.{MayLetGo}
 use Rattle.cb_cache.specs.CacheState.{CacheState, client_with, content_at, limits_of}
-use Rattle.cb_cache.specs.CacheState.{referred_pages}
+use Rattle.cb_cache.specs.CacheState.{references_at}
 
 -- The copies become what these steps of the protocol make of them, whichever client has them. No
 -- page is referred to.
@@ -15,7 +15,7 @@ pub record Does (before : CacheState) (steps : List ClientStep) (after : CacheSt
       → client_after before.limits.keep_write (client_with before client) steps
       ≡ client_with after (client_after before.limits.keep_write client steps)
   pub limits : after.limits ≡ before.limits
-  pub references : referred_pages after ≡ referred_pages before
+  pub references : references_at after ≡ references_at before
 
 -- the same, save that a page is referred to once, with the pages fixed that were fixed before
 pub record DoesReferring (before : CacheState) (page : ℕ) (steps : List ClientStep)
@@ -24,7 +24,7 @@ pub record DoesReferring (before : CacheState) (page : ℕ) (steps : List Client
       → client_after before.limits.keep_write (client_with before client) steps
       ≡ client_with after (client_after before.limits.keep_write client steps)
   pub limits : after.limits ≡ before.limits
-  pub references : referred_pages after ≡ referred_pages before ++ (page, before.pool.fixed) ∷ []
+  pub references : references_at after ≡ references_at before ++ (page, before.pool.fixed) ∷ []
 
 -- the first, of a client whose last transaction has this number
 pub record DoesInTxn (txn : ℕ) (before : CacheState) (steps : List ClientStep)
@@ -33,7 +33,7 @@ pub record DoesInTxn (txn : ℕ) (before : CacheState) (steps : List ClientStep)
       → client_after before.limits.keep_write (client_with before client) steps
       ≡ client_with after (client_after before.limits.keep_write client steps)
   pub limits : after.limits ≡ before.limits
-  pub references : referred_pages after ≡ referred_pages before
+  pub references : references_at after ≡ references_at before
 
 -- the pool lets a page's bytes go, if any, and what stays of that copy is its grant
 abbrev pub lose_bytes : Option ℕ → List ClientStep

@@ -32,8 +32,8 @@ abbrev pub content_at : CacheState → (page : ℕ) → Option Bytes
 content_at copies page = copy_of copies.pool page
 
 -- the references to pages, in their order, each with the pages that were fixed then
-abbrev pub referred_pages : CacheState → References
-referred_pages copies = references_in copies.pool.calls
+abbrev pub references_at : CacheState → References
+references_at copies = references_in copies.pool.calls
 
 -- the copies once a page was referred to, if its bytes are in the pool
 abbrev pub referred_to : CacheState → (page : ℕ) → CacheState

@@ -5,7 +5,7 @@ use Rattle.cb_outbox.specs.Messages.{messages_of}
 use Rattle.cb_protocol.specs.Client.{Client, ClientStep, bodies_said, client_after}
 use Rattle.cb_protocol.specs.ClientEnd.{end_page, end_pages}
 use Rattle.cb_protocol.specs.Messages.{Body, Message}
-use Rattle.cb_cache.specs.CacheState.{CacheState, client_with, copy_at, referred_pages}
+use Rattle.cb_cache.specs.CacheState.{CacheState, client_with, copy_at, references_at}
 use Rattle.cb_locks.specs.Locks.{LocksState, ended}
 use Rattle.cb_cache.specs.Owing.{holder, locks_with}
 
@@ -43,4 +43,4 @@ pub record Ends (copies : CacheState) (locks : LocksState) (steps : List ClientS
       (bodies_said (steps ++ pages_steps copies locks dropped copies.limits.pages))
   pub unlocked : locks_after ≡ ended locks
   pub limits : copies_after.limits ≡ copies.limits
-  pub references : referred_pages copies_after ≡ referred_pages copies
+  pub references : references_at copies_after ≡ references_at copies

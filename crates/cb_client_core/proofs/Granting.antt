@@ -20,7 +20,7 @@ use Rattle.cb_protocol.specs.Messages.{Body, Granted, GiveBack, Message}
 use Rattle.cb_protocol.specs.Ranges.{BodyFits}
 use Rattle.cb_protocol.specs.Serial.{Operation}
 use Rattle.cb_cache.specs.ByTable.{Brings, BringsIn, Does, DoesReferring, Filled, Installed, lose_bytes}
-use Rattle.cb_cache.specs.CacheState.{CacheState, IsFull, client_with, content_at, copy_at, referred_pages}
+use Rattle.cb_cache.specs.CacheState.{CacheState, IsFull, client_with, content_at, copy_at, references_at}
 use Rattle.cb_cache.proofs.Changing.{put_entry}
 use Rattle.cb_cache.proofs.Steps.{goes_before}
 use Rattle.cb_locks.specs.Dues.{called_by}
@@ -229,7 +229,7 @@ record Brought (v : ClientState) (p : ℕ) (gone : Option ℕ) (st : ClientStep)
       → client_after v.copies.limits.keep_write (client_with v.copies other) (first ++ SetAsk NoAsk ∷ st ∷ more) ≡ client_after v.copies.limits.keep_write (client_with c2 (record other { ask = NoAsk })) more
   says : (more : List ClientStep) → bodies_said (first ++ SetAsk NoAsk ∷ st ∷ more) ≡ said_of_gone c1 v.locks gone ++ bodies_said more
   limits : c2.limits ≡ v.copies.limits
-  references : referred_pages c2 ≡ referred_pages v.copies ++ (p, v.copies.pool.fixed) ∷ []
+  references : references_at c2 ≡ references_at v.copies ++ (p, v.copies.pool.fixed) ∷ []
   held : (r : ℕ) → r ≢ p → has v.locks.locked r ≡ true → (copy_at c2 r).held ≡ (copy_at v.copies r).held
   bare : (r : ℕ) → r ≢ p → is_some (copy_at c2 r).held ≡ true → content_at c2 r ≡ None → has v.locks.locked r ≡ true
 

@@ -1,6 +1,6 @@
 -- What a client does, by the protocol's tables.
 use Rattle.std.specs.Prelude.{◌≡◌, ℕ, List, [], ◌∷◌, ◌++◌, map, Option, if◌then◌else◌}
-use Rattle.cb_cache.specs.CacheState.{limits_of, referred_pages}
+use Rattle.cb_cache.specs.CacheState.{limits_of, references_at}
 use Rattle.cb_twoq.specs.Calls.{References}
 use Rattle.cb_protocol.specs.Answers as table
 use Rattle.cb_protocol.specs.Basics.{Limits}
@@ -31,9 +31,9 @@ over operations = []
 
 -- the references of the client since its incarnation began, in their order
 abbrev pub references_of : ClientState → References
-references_of client = referred_pages client.copies
+references_of client = references_at client.copies
 
--- the references with one more, to this page, with the pages fixed that the client has fixed
+-- these references and one more, to this page, while the client has its pages fixed so
 abbrev pub with_reference_to : ClientState → (page : ℕ) → References → References
 with_reference_to client page references = references ++ (page, client.copies.pool.fixed) ∷ []
 

@@ -4,7 +4,8 @@ use cb_frame::{FrameFault, decode};
 use cb_test_parts::stores::small_limits;
 use std::alloc::Global;
 
-// Client 3, in its first incarnation, asks to read page 5 in transaction 7. One byte stands behind.
+// In version 1: client 3, in its first incarnation, asks to read page 5 in transaction 7. One byte
+// stands behind.
 static ASK_AND_MORE: [u8; 29] = [
     1, 2, 0, 3, 0, 0, 0, 0, 0, 0, 0, 1, 0, 0, 0, 12, 0, 0, 0, 0, 0, 0, 0, 7, 0, 0, 0, 5, 0,
 ];

@@ -47,7 +47,8 @@ impl<Q: Chooser> Worker<Q> {
         }
     }
 
-    /// How the last transaction ended, where that one is over and was not dropped.
+    /// How the last transaction ended, where the client is welcomed, and that one is over and
+    /// wasn't dropped.
     pub(super) fn ended(&self) -> Option<Finished>
         ensures so { IfSome result (IsFinished self.now) }
         ensures welcomed { IsSome result → self.now.client.welcomed ≡ true }
@@ -59,7 +60,7 @@ impl<Q: Chooser> Worker<Q> {
         finished_by(self.client.last()?)
     }
 
-    /// Whether the last transaction is over and was aborted.
+    /// Whether the client is welcomed, and its last transaction is over and was aborted.
     pub(super) fn is_aborted(&self) -> bool
         ensures { IsTrue result ↔ WasAborted self.now }
     {
