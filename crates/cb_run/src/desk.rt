@@ -5,11 +5,11 @@ ghost use Rattle.std.specs.Sync.Mutex.{mutex_guard_value};
 ghost use Rattle.sqlite.specs.Held.{state};
 ghost use Rattle.sqlite.specs.State.{Survives};
 ghost use Rattle.cb_station.specs.Flags.{is_over};
+ghost use Rattle.cb_station.specs.Reporting.{ReportsUpTo};
 ghost use Rattle.cb_station.specs.Telling.{Tells};
 ghost use Rattle.cb_station.specs.Stations.{IsUnchanged, StationState};
 ghost use Rattle.cb_run.specs.Ends.{IsWritten};
 ghost use Rattle.cb_run.specs.Pacing.{awaited_after};
-ghost use Rattle.cb_run.specs.Reporting.{ReportsUpTo};
 ghost use Rattle.cb_run.specs.Stopping.{EndsAt};
 ghost use Rattle.cb_shelf.specs.Flushing.{WritesOne, WritesOrStays};
 ghost use Rattle.cb_shelf.specs.Writing.{Fits, Wrote};
@@ -17,10 +17,9 @@ ghost use Rattle.cb_shelf.specs.Writing.{Fits, Wrote};
 use crate::Watch;
 use crate::over::{Next, next_at};
 use crate::pace::{Pace, time_since};
-use crate::reporting::{Reported, report_at};
 use cb_commit::Batch;
 use cb_shelf::{Reports, Shelf, ShelfFault, Written, write_and_report};
-use cb_station::{Office, Station};
+use cb_station::{Office, Reported, Station};
 use sqlite::Alter;
 use std::alloc::{AllocError, Global};
 use std::sync::{MutexGuard, Wait};
@@ -91,13 +90,13 @@ fn report_under(
     ensures unchanged { OnErr result ((mid : StationState) × IsUnchanged station.old mid
         × Tells mid station.new) }
 {
-    let reported = report_at(alloc, station, written);
+    let reported = station.report(alloc, written);
     office.tell(station);
     reported
 }
 
 /// The office, to which a batch is reported under its lock (`report_under`). That the station lies
-/// there no contract says; what was reported, and that `report_at` did it, the answer says.
+/// there no contract says; what was reported, and that `Station::report` did it, the answer says.
 #[derive(Drop)]
 struct Desk<'a, R> {
     rt: &'a R,

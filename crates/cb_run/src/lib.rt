@@ -34,7 +34,6 @@ mod pace;
 mod parts;
 mod printing;
 mod progress;
-mod reporting;
 mod results;
 mod run;
 mod running;

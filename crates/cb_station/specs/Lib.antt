@@ -9,3 +9,4 @@ pub mod Offices
 pub mod Locking
 pub mod Copies
 pub mod Written
+pub mod Reporting

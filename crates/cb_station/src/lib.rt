@@ -20,4 +20,4 @@ mod station;
 pub use locked::LockedStation;
 pub use office::Office;
 pub use office_fault::OfficeFault;
-pub use station::{EndedTry, Station, Ticket};
+pub use station::{EndedTry, Reported, Station, Ticket};

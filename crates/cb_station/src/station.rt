@@ -23,10 +23,12 @@ mod collecting;
 mod committing;
 mod entering;
 mod flags;
+mod reporting;
 mod taking;
 
 use crate::office_fault::OfficeFault;
 pub use crate::station::admitting::{EndedTry, Ticket};
+pub use crate::station::reporting::Reported;
 pub(crate) use crate::station::flags::Expected;
 use crate::station::flags::Flags;
 use cb_commit::{Batch, Past, Store};
