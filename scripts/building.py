@@ -15,7 +15,7 @@ RT = os.environ.get("RT", "rt").split()
 # What programs stand on.
 SHELF = ["cb_page", "cb_frame", "cb_commit", "cb_shelf", "cb_test_parts"]
 KILLED = [
-    "cb_page", "cb_commit", "cb_console", "cb_shelf", "cb_station", "cb_run",
+    "cb_page", "cb_commit", "cb_console", "cb_shelf", "cb_station", "cb_office",
     "sqlite", "anyhow",
 ]
 DATABASE = ["sqlite", "sqlite_disk", "sqlite_store", "anyhow"]

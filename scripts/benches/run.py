@@ -27,7 +27,7 @@ import building
 
 OWN = [
     "cb_page", "cb_twoq", "cb_commit", "cb_admission", "cb_station", "cb_shelf", "cb_worker",
-    "cb_run", "sqlite", "anyhow",
+    "cb_office", "sqlite", "anyhow",
 ]
 CONFIG = "clients = {}\npages = 2\npage_size = 16\nslots = 2\njobs = {}\n"
 

@@ -22,7 +22,7 @@ import serial
 from checks.trying import numbers
 
 LIBRARIES = [
-    "cb_page", "cb_admission", "cb_run", "cb_shelf", "cb_station", "cb_twoq",
+    "cb_page", "cb_admission", "cb_office", "cb_shelf", "cb_station", "cb_twoq",
     "cb_worker", "anyhow", "rand_core", "rand_pcg", "sqlite",
 ]
 CLIENTS = [32, 2, 8, 32, 4, 16]

@@ -20,7 +20,7 @@ import building
 
 SERVER = ["cb_page", "cb_frame", "cb_commit", "cb_server", "cb_server_state", "anyhow"]
 RUN = [
-    "cb_page", "cb_twoq", "cb_station", "cb_shelf", "cb_worker", "cb_run", "sqlite",
+    "cb_page", "cb_twoq", "cb_station", "cb_shelf", "cb_worker", "cb_office", "sqlite",
     "crossbeam_channel", "anyhow",
 ]
 

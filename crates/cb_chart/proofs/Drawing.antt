@@ -20,9 +20,9 @@ use Rattle.cb_page.specs.Bounds.{Bounds}
 use Rattle.cb_transcript.specs.declared.answer.Answer.{Answer}
 use Rattle.cb_transcript.specs.declared.answer.TranscriptEntry.{TranscriptEntry}
 use Rattle.cb_transcript.specs.Transcripts.{TranscriptState}
-use Rattle.cb_world.specs.Draws.{IsOpening}
-use Rattle.cb_world.specs.Plays.{Steps}
-use Rattle.cb_world.specs.WorldState.{Represents, WorldState, told}
+use Rattle.cb_schedule.specs.Draws.{IsOpening}
+use Rattle.cb_schedule.specs.Plays.{Steps}
+use Rattle.cb_schedule.specs.WorldState.{Represents, WorldState, told}
 
 -- what one entry more sends
 sends_more : (at : ℕ) (entries : List TranscriptEntry) (entry : TranscriptEntry) (count : ℕ) → at + length entries ≡ count

@@ -3,9 +3,9 @@ use Rattle.std.specs.Prelude.{◌≡◌, ◌∷◌, List, [], map, length}
 use Rattle.cb_transcript.specs.declared.event.Event.{Event}
 use Rattle.cb_page.specs.Bounds.{Bounds}
 use Rattle.cb_transcript.specs.declared.answer.Answer.{Answer}
-use Rattle.cb_world.specs.Draws.{IsOpening}
-use Rattle.cb_world.specs.Plays.{Steps}
-use Rattle.cb_world.specs.WorldState.{WorldState}
+use Rattle.cb_schedule.specs.Draws.{IsOpening}
+use Rattle.cb_schedule.specs.Plays.{Steps}
+use Rattle.cb_schedule.specs.WorldState.{WorldState}
 use Rattle.cb_chart.specs.Arrows.{arrows_from, sendings_from}
 use Rattle.cb_chart.specs.Bars.{AreBars}
 use Rattle.cb_chart.specs.Sights.{sight}

@@ -6,8 +6,8 @@ use Rattle.cb_page.specs.Flags.{has}
 use Rattle.cb_cache.specs.CacheState.{content_at}
 use Rattle.cb_client_core.specs.ClientState.{ClientState, stage_of}
 use Rattle.cb_protocol.specs.Cache.{is_open}
-use Rattle.cb_world.specs.WorldState.{WorldState}
-use Rattle.cb_world.specs.WorldClientsState.{client_at}
+use Rattle.cb_schedule.specs.WorldState.{WorldState}
+use Rattle.cb_schedule.specs.WorldClientsState.{client_at}
 use Rattle.cb_chart.specs.declared.bars.ClientCopy.{ClientCopy}
 
 -- the client has the bytes of its copy of the page

@@ -13,9 +13,9 @@ use crate::copies::copies_in;
 use crate::marks::{Mark, at_work, ended};
 use cb_commit::Store;
 use cb_page::Limits;
+use cb_schedule::World;
 use cb_transcript::{Event, TranscriptEntry};
 use cb_twoq::TwoQ;
-use cb_world::World;
 use std::alloc::{AllocError, Global};
 
 /// The most events of a chart.

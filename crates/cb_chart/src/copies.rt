@@ -5,8 +5,8 @@ ghost use Rattle.cb_chart.specs.Sights.{can_read, copies_at, copies_to, copy_of,
 use crate::bars::ClientCopy;
 use cb_client::Client;
 use cb_page::{ClientNo, PageNo};
+use cb_schedule::World;
 use cb_twoq::Chooser;
-use cb_world::World;
 use std::alloc::{AllocError, Global};
 
 /// The copies that clients of the world can read, by rising client and page. `AllocError` only if

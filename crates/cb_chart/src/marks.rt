@@ -2,8 +2,8 @@
 
 use cb_client::{Client, ClientStatus, Outcome};
 use cb_page::{ClientNo, ClientSet};
+use cb_schedule::World;
 use cb_twoq::Chooser;
-use cb_world::World;
 
 /// How a client's transaction ended.
 #[derive(Clone, Copy, Debug, PartialEq, Eq)]

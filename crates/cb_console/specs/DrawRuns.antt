@@ -3,7 +3,7 @@
 use Rattle.std.specs.Prelude.{◌≡◌, ◌≢◌, ℕ, Option, Result, Ok, Err, List}
 use Rattle.std.specs.List.{flat_map}
 use Rattle.std.specs.Io.KnownBytes.{Appends}
-use Rattle.cb_world.specs.Draws.{AreDrawn}
+use Rattle.cb_schedule.specs.Draws.{AreDrawn}
 use Rattle.cb_transcript.specs.declared.event.Event.{Event}
 use Rattle.cb_console.specs.Settings.{IsConfig, IsWrong, config_text}
 use Rattle.cb_console.specs.declared.config.Config.{Config}

@@ -4,12 +4,12 @@ use Rattle.std.specs.Prelude.{◌≡◌, ◌≢◌, ◌<◌, ◌⊎◌, ℕ, Boo
 use Rattle.std.specs.Prelude.{Result, Ok, Err, List, [], ◌∷◌, ◌++◌, length, take, codes}
 use Rattle.std.specs.Io.KnownBytes.{Appends}
 use Rattle.cb_page.specs.Bounds.{Bounds}
-use Rattle.cb_world.specs.Draws.{IsOpening}
-use Rattle.cb_world.specs.FirstLife.{IsFirstLife}
-use Rattle.cb_world.specs.LivesPlays.{LivesPlayed}
-use Rattle.cb_world.specs.LivesState.{LivesState}
-use Rattle.cb_world.specs.Plays.{Played}
-use Rattle.cb_world.specs.WorldState.{WorldState}
+use Rattle.cb_schedule.specs.Draws.{IsOpening}
+use Rattle.cb_schedule.specs.FirstLife.{IsFirstLife}
+use Rattle.cb_schedule.specs.LivesPlays.{LivesPlayed}
+use Rattle.cb_schedule.specs.LivesState.{LivesState}
+use Rattle.cb_schedule.specs.Plays.{Played}
+use Rattle.cb_schedule.specs.WorldState.{WorldState}
 use Rattle.cb_transcript.specs.FaultTexts.{fault_text}
 use Rattle.cb_transcript.specs.LivesText as lives_text
 use Rattle.cb_transcript.specs.ScheduleText as text

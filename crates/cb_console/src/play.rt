@@ -16,12 +16,12 @@ use crate::output::{put_entries, put_lives_entries, put_verdict};
 use crate::statuses::{DONE, NO_MEMORY, NOT_SERIAL, WRONG_INPUT};
 use cb_commit::Store;
 use cb_page::Limits;
+use cb_schedule::{Lives, World};
 use cb_transcript::{
     Event, LivesEvent, LivesTranscript, ScheduleFault, Transcript, Verdict, check_serial,
     read_lives, read_schedule,
 };
 use cb_twoq::TwoQ;
-use cb_world::{Lives, World};
 use std::alloc::{AllocError, Global};
 use std::io::Write;
 use std::{fmt, io};

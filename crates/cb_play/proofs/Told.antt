@@ -5,16 +5,16 @@ use Rattle.std.specs.Prelude.{IfOk}
 use Rattle.sqlite.specs.Held.{Held}
 use Rattle.sqlite.specs.Store.{Ghosts}
 use Rattle.cb_console.specs.declared.config.Config.{Config}
-use Rattle.cb_run.specs.Outcomes.{PrintsCounted, PrintsRun}
-use Rattle.cb_run.specs.declared.ending.EarlyEnding.{EarlyEnding}
-use Rattle.cb_run.specs.declared.printing.Counted.{Counted}
+use Rattle.cb_office.specs.Outcomes.{PrintsCounted, PrintsRun}
+use Rattle.cb_office.specs.declared.ending.EarlyEnding.{EarlyEnding}
+use Rattle.cb_office.specs.declared.printing.Counted.{Counted}
 use Rattle.cb_play.specs.StoreRuns.{HasAll, PrintsOver, PrintsReached, all_jobs}
 use Rattle.cb_play.specs.declared.store_file.Reach.{Reach}
 use Rattle.cb_play.specs.declared.store_file.Reach.TheVariants as reach
 use Rattle.cb_play.specs.declared.store_file.StoreEnd.{StoreEnd}
 use Rattle.cb_play.specs.declared.store_file.StoreFile.{StoreFile}
 use Rattle.cb_play.specs.declared.store_run.Printed.{Printed}
-use Rattle.cb_run.specs.Runs.{IsCounted, ending_of_shelf}
+use Rattle.cb_office.specs.Runs.{IsCounted, ending_of_shelf}
 use Rattle.cb_shelf.specs.declared.fault.ShelfFault.{ShelfFault}
 
 -- an ending counts nothing

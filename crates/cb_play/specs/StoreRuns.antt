@@ -1,11 +1,11 @@
 -- What is printed of a run over a store's file. This project's rules.
 use Rattle.std.specs.Prelude.{◌≡◌, ◌≤◌, ◌*◌, ℕ, Bool, Option, Some, None, Result, Ok, Err, List}
-use Rattle.cb_run.specs.Outcomes.{PrintsCounted, PrintsRun}
-use Rattle.cb_run.specs.declared.printing.Counted.{Counted}
+use Rattle.cb_office.specs.Outcomes.{PrintsCounted, PrintsRun}
+use Rattle.cb_office.specs.declared.printing.Counted.{Counted}
 use Rattle.cb_console.specs.declared.config.Config.{Config}
 use Rattle.cb_console.specs.RunSettings.{IsRunSettings, PrintsRefusal}
 use Rattle.cb_console.specs.declared.running.RunFault.{RunFault}
-use Rattle.cb_run.specs.Runs.{AreAll, ending_of_shelf}
+use Rattle.cb_office.specs.Runs.{AreAll, ending_of_shelf}
 use Rattle.cb_play.specs.declared.store_file.Reach.{Reach}
 use Rattle.cb_play.specs.declared.store_file.Reach.TheVariants as reach
 use Rattle.cb_play.specs.declared.store_file.StoreEnd.{StoreEnd}

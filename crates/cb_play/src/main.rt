@@ -1,7 +1,7 @@
 //! The program. It plays a page server with callback locking and its clients from a schedule of
 //! events, or runs them on threads over a store on disk.
 //!
-//! `cb_console` reads configurations, plays and draws; `cb_chart` makes pictures; `cb_run` runs
+//! `cb_console` reads configurations, plays and draws; `cb_chart` makes pictures; `cb_office` runs
 //! workers; `cb_serve` serves frames; `cb_one_side` plays at one side alone. This crate has the
 //! words of the command line, the files that are read for them, scripts of such words, and how the
 //! program ends.

@@ -8,8 +8,8 @@ ghost use Rattle.sqlite.specs.Held.{state};
 ghost use Rattle.sqlite.specs.State.{HasCleanDisk};
 
 use cb_commit::Store;
+use cb_office::PastRun;
 use cb_page::Limits;
-use cb_run::PastRun;
 use cb_shelf::{Life, Shelf, ShelfFault};
 use sqlite::{Alter, Connection, File, FileStore};
 use std::alloc::Global;

@@ -1,17 +1,17 @@
 //! Workers over a store in a file.
 ghost use Rattle.std.specs.Prelude.{◌≡◌, ◌*◌, false, Err, IfOk, None};
 ghost use Rattle.cb_commit.specs.Stores.{IsOf};
-ghost use Rattle.cb_run.specs.Outcomes.{PrintsCounted, PrintsRun};
-ghost use Rattle.cb_run.specs.Runs.{IsCounted, cut_off_of};
+ghost use Rattle.cb_office.specs.Outcomes.{PrintsCounted, PrintsRun};
+ghost use Rattle.cb_office.specs.Runs.{IsCounted, cut_off_of};
 ghost use Rattle.cb_play.specs.StoreRuns.{IsStoreRun, PrintsOver, PrintsReached, all_jobs};
 
 use crate::store_file::{StoreEnd, StoreFile};
 use cb_commit::Store;
 use cb_console::{Config, print_refusal, run_settings};
-use cb_page::{ClientNo, Incarnation, Limits};
-use cb_run::{
+use cb_office::{
     EarlyEnding, Gate, PastRun, RunEnd, Turn, Watch, of_shelf, print_run, run_on_watched,
 };
+use cb_page::{ClientNo, Incarnation, Limits};
 use cb_shelf::{Life, Shelf};
 use cb_station::{Office, Station};
 use sqlite::{Alter, Connection};

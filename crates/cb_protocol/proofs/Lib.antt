@@ -168,7 +168,7 @@
 -- make "this world is reached" the invariant of a type.
 --
 -- Which protocol's `Client`, `Server` or `World` a value of the code is, `client_of`
--- (`cb_client_core`), `server_of` (`cb_server_state`) and `Represents` (`cb_world`) say. Where a
+-- (`cb_client_core`), `server_of` (`cb_server_state`) and `Represents` (`cb_schedule`) say. Where a
 -- number is out of range it has what `new_client` and `new_server` have.
 --
 -- Of room and numbers the server's code may cite:

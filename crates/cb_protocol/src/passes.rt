@@ -5,11 +5,11 @@
 //! sent, lost, repeated or reordered, whoever restarts, whatever pages are let go and whoever is
 //! doomed, with kept write permission and without it.
 //!
-//! The contracts of `cb_world` hand out such worlds. While a world runs (`World::is_running`) it is
-//! one that is reached: `IsReached` has the protocol's world that it stands for, the soundness of
-//! its opening store and the run (`sound`, `world`, `reached`). `Steps.promise` has the world after
-//! a step and that it is reached, and `Played.plays` a run from `Played.first`. These fields are
-//! what the laws take, and what a caller cites a law with.
+//! The contracts of `cb_schedule` hand out such worlds. While a world runs (`World::is_running`) it
+//! is one that is reached: `IsReached` has the protocol's world that it stands for, the soundness
+//! of its opening store and the run (`sound`, `world`, `reached`). `Steps.promise` has the world
+//! after a step and that it is reached, and `Played.plays` a run from `Played.first`. These fields
+//! are what the laws take, and what a caller cites a law with.
 ghost use Rattle.cb_protocol.specs.Basics.{Limits};
 ghost use Rattle.cb_protocol.specs.Laws.{Always};
 ghost use Rattle.cb_protocol.specs.Server.{DeadlockTest};

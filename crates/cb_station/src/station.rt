@@ -28,9 +28,9 @@ mod taking;
 
 use crate::office_fault::OfficeFault;
 pub use crate::station::admitting::{EndedTry, Ticket};
-pub use crate::station::reporting::Reported;
 pub(crate) use crate::station::flags::Expected;
 use crate::station::flags::Flags;
+pub use crate::station::reporting::Reported;
 use cb_commit::{Batch, Past, Store};
 use cb_frame::Frame;
 use cb_hands::{Entry, Hand, JoinedHands};

@@ -1,7 +1,7 @@
 //! The texts of faults, of every variant: number and name.
 
 use cb_client::ClientFault;
-use cb_run::TallyFault;
+use cb_office::TallyFault;
 use cb_station::OfficeFault;
 use cb_test_parts::printed::are_printed;
 use cb_worker::WorkerFault;

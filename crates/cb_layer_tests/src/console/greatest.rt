@@ -4,9 +4,9 @@
 
 use cb_commit::Store;
 use cb_page::{ClientNo, Limits, PageNo};
+use cb_schedule::World;
 use cb_transcript::{Call, Event};
 use cb_twoq::TwoQ;
-use cb_world::World;
 use std::alloc::Global;
 use std::test::Fail;
 

@@ -4,9 +4,9 @@
 
 use cb_commit::Store;
 use cb_page::{ClientNo, Limits};
+use cb_schedule::World;
 use cb_transcript::{Answer, Call, Event};
 use cb_twoq::TwoQ;
-use cb_world::World;
 use std::alloc::Global;
 
 /// A world of zeros; `None` where there are no such limits, or memory is refused.

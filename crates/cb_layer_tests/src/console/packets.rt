@@ -3,10 +3,10 @@
 
 use cb_commit::Store;
 use cb_page::Limits;
+use cb_schedule::World;
 use cb_test_parts::stores::small_limits;
 use cb_transcript::read_schedule;
 use cb_twoq::TwoQ;
-use cb_world::World;
 use std::alloc::Global;
 
 /// A schedule of so many clients, in two texts of which the first may be that they greet; the

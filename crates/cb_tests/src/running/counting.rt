@@ -1,6 +1,6 @@
 //! A tally of the greatest size.
+use cb_office::{JobDone, Tally, TallyFault};
 use cb_page::{ClientNo, CommitNo};
-use cb_run::{JobDone, Tally, TallyFault};
 use std::test::Fail;
 
 /// A job of a client.

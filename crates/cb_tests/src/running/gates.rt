@@ -2,8 +2,8 @@
 //! other.
 use crate::running::run::{Came, run_to_end};
 use cb_hands::Entry;
+use cb_office::{Gate, Turn};
 use cb_page::{ClientNo, CommitNo};
-use cb_run::{Gate, Turn};
 use cb_station::{Office, Station};
 use std::sync::atomic::{AtomicU64, Ordering};
 use std::sync::{Mutex, Wait};

@@ -1,6 +1,6 @@
 //! The lines of a run.
+use cb_office::{Progress, Watch};
 use cb_page::CommitNo;
-use cb_run::{Progress, Watch};
 use std::io;
 use std::sync::atomic::{AtomicU64, Ordering};
 use std::test::Fail;

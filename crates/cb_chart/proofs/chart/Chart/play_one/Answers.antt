@@ -10,7 +10,7 @@ use Rattle.cb_chart.proofs.Drawing.{marks_more, shows_more}
 use Rattle.cb_transcript.specs.declared.event.Event.{Event}
 use Rattle.cb_transcript.specs.Transcripts.{TranscriptState}
 use Rattle.cb_transcript.specs.declared.answer.SentPacket.{SentPacket}
-use Rattle.cb_world.specs.Plays.{Steps}
+use Rattle.cb_schedule.specs.Plays.{Steps}
 use Rattle.cb_chart.proofs.chart.Chart.play_one.Goals as goal
 
 pub returns : goal.returns

@@ -1,6 +1,0 @@
--- Goals of `count_up`.
-use Rattle.std.proofs.Common.{rules}
-use Rattle.cb_run.proofs.counters.count_up.Goals as goal
-
-pub returns-clause-counts : goal.returns-clause-counts
-returns-clause-counts c = search rules

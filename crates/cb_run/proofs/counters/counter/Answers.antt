@@ -1,6 +1,0 @@
--- Goals of `counter`.
-use Rattle.std.proofs.Common.{rules}
-use Rattle.cb_run.proofs.counters.counter.Goals as goal
-
-pub returns : goal.returns
-returns c = search rules

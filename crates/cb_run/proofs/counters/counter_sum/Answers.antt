@@ -1,6 +1,0 @@
--- Goals of `counter_sum`.
-use Rattle.std.proofs.Common.{rules}
-use Rattle.cb_run.proofs.counters.counter_sum.Goals as goal
-
-pub returns : goal.returns
-returns c = search rules
