@@ -164,17 +164,33 @@ fn survives_stops(alloc: Global, limits: &Limits, text: &str, first: u64, is_log
     false
 }
 
-/// As a life begins over new tables, over copied ones, and over those that kept no lives.
+/// As a life begins over new tables.
 #[test]
-fn disks_stop_as_lives_begin(rt: HostRuntime) -> Result<(), Fail> {
+fn log_stops_as_a_life_begins(rt: HostRuntime) -> Result<(), Fail> {
     let limits = Limits::new(1, 2, 16, 2, 1, 1)?;
-    for (text, first, is_log) in [
-        ("", 1, true),
-        ("", 1, false),
-        (OLD, UNKEPT, true),
-        (NEW, UNKEPT, false),
-    ] {
-        assert!(rt; survives_stops(rt.alloc(), &limits, text, first, is_log));
-    }
+    assert!(rt; survives_stops(rt.alloc(), &limits, "", 1, true));
+    Ok(())
+}
+
+#[test]
+fn file_stops_as_a_life_begins(rt: HostRuntime) -> Result<(), Fail> {
+    let limits = Limits::new(1, 2, 16, 2, 1, 1)?;
+    assert!(rt; survives_stops(rt.alloc(), &limits, "", 1, false));
+    Ok(())
+}
+
+/// As one begins over tables that are copied.
+#[test]
+fn log_stops_as_tables_are_copied(rt: HostRuntime) -> Result<(), Fail> {
+    let limits = Limits::new(1, 2, 16, 2, 1, 1)?;
+    assert!(rt; survives_stops(rt.alloc(), &limits, OLD, UNKEPT, true));
+    Ok(())
+}
+
+/// As one begins over tables that kept no lives.
+#[test]
+fn file_stops_as_the_first_life_begins(rt: HostRuntime) -> Result<(), Fail> {
+    let limits = Limits::new(1, 2, 16, 2, 1, 1)?;
+    assert!(rt; survives_stops(rt.alloc(), &limits, NEW, UNKEPT, false));
     Ok(())
 }
