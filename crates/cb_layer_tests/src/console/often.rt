@@ -70,5 +70,5 @@ fn every_incarnation(rt: HostRuntime) {
 
 #[test]
 fn many_commits(rt: HostRuntime) {
-    assert!(rt; commits(rt.alloc(), 1, 5_000) == Some(5_000));
+    assert!(rt; commits(rt.alloc(), 1, 20_000) == Some(20_000));
 }

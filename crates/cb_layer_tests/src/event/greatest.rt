@@ -15,15 +15,15 @@ fn doubled(alloc: Global, text: &str, times: u32) -> Result<String, AllocError> 
     Ok(all)
 }
 
-/// How many events are read of a schedule of 32,768, one a line.
+/// How many events are read of a schedule of 131,072, one a line.
 fn events_of_all(alloc: Global) -> Option<usize> {
     let limits = Limits::new(32, 4096, 16, 1024, 1023, 4096).ok()?;
-    let text = doubled(alloc, "flush\n", 15).ok()?;
+    let text = doubled(alloc, "flush\n", 17).ok()?;
     let events = read_schedule(alloc, &limits, text.as_bytes()).ok()?;
     Some(events.len())
 }
 
 #[test]
 fn many_events(rt: HostRuntime) {
-    assert!(rt; events_of_all(rt.alloc()) == Some(32_768));
+    assert!(rt; events_of_all(rt.alloc()) == Some(131_072));
 }

@@ -18,22 +18,14 @@ pub(crate) struct ShelfSession<'a> {
     pub(crate) task: SessionTask,
 }
 
-/// After this text that is done to a shelf.
-pub(crate) fn session_of<'a>(
-    limits: &'a Limits,
-    text: &'a str,
-    task: SessionTask,
-) -> ShelfSession<'a> {
-    ShelfSession {
-        limits,
-        texts: [text, ""],
-        task,
-    }
-}
-
 /// After this text a shelf is read.
 pub(crate) fn reading<'a>(limits: &'a Limits, text: &'a str) -> ShelfSession<'a> {
-    session_of(limits, text, SessionTask::Load)
+    let (texts, task) = ([text, ""], SessionTask::Load);
+    ShelfSession {
+        limits,
+        texts,
+        task,
+    }
 }
 
 /// What is done to a shelf.
@@ -45,10 +37,6 @@ pub(crate) enum SessionTask {
     Write(Writing),
     /// A life of a server begins, and gets room for a Hello of this incarnation.
     Live(u64),
-    /// The same, and then a commit is written, as for `Writing::Once`.
-    Serve(u64),
-    /// It is read, and a life begins.
-    LoadAndLive,
 }
 
 /// How far a session came.
@@ -70,10 +58,6 @@ pub(crate) enum SessionEnd {
     Unbegun(ShelfFault),
     /// A life began with this floor; whether it got its room.
     Lived(u64, bool),
-    /// One did and got its room; whether the commit was written.
-    Served(u64, bool),
-    /// It held this, as for `Holds`, and then a life began with this floor.
-    Kept(Option<TwoPages>, u64),
 }
 
 /// A store of two pages: its number, and the version of each page and the byte that fills it.
@@ -135,21 +119,6 @@ pub(crate) fn run_session(
     (end, files)
 }
 
-/// With so many calls of a disk at most a session stops before its shelf is opened, and with one
-/// more it doesn't. Where the disk stops earlier, the session sees its database alone.
-pub(crate) fn calls_before_a_shelf(alloc: Global, session: ShelfSession<'_>, is_log: bool) -> u64 {
-    let mut before: u64 = 0;
-    for step in [512_u64, 256, 128, 64, 32, 16, 8, 4, 2, 1] {
-        let more = before.wrapping_add(step);
-        let files = files_that_stop(alloc, calls_of(is_log, more));
-        let (reached, _) = run_session(alloc, files, session);
-        if reached == SessionEnd::Nothing || reached == SessionEnd::Database {
-            before = more;
-        }
-    }
-    before
-}
-
 /// Whether the texts run.
 fn run_texts<S: Alter>(conn: &mut Connection<S>, texts: [&str; 2]) -> bool {
     conn.execute_batch(texts[0]).is_ok() && conn.execute_batch(texts[1]).is_ok()
@@ -180,26 +149,12 @@ fn done<S: Alter>(
     task: SessionTask,
 ) -> SessionEnd {
     match task {
-        SessionTask::Load => read(alloc, limits, shelf),
+        SessionTask::Load => match shelf.load(alloc) {
+            Ok(store) => SessionEnd::Holds(held_by(limits, &store)),
+            Err(fault) => SessionEnd::Unread(fault),
+        },
         SessionTask::Write(writing) => SessionEnd::Written(writes(alloc, limits, shelf, writing)),
         SessionTask::Live(incarnation) => lived(shelf, incarnation),
-        SessionTask::Serve(incarnation) => match lived(shelf, incarnation) {
-            SessionEnd::Lived(floor, true) => {
-                SessionEnd::Served(floor, writes(alloc, limits, shelf, Writing::Once))
-            }
-            end => end,
-        },
-        SessionTask::LoadAndLive => match (read(alloc, limits, shelf), lived(shelf, 0)) {
-            (SessionEnd::Holds(held), SessionEnd::Lived(floor, _)) => SessionEnd::Kept(held, floor),
-            (SessionEnd::Holds(_), end) | (end, _) => end,
-        },
-    }
-}
-
-fn read<S: Alter>(alloc: Global, limits: &Limits, shelf: &mut Shelf<S>) -> SessionEnd {
-    match shelf.load(alloc) {
-        Ok(store) => SessionEnd::Holds(held_by(limits, &store)),
-        Err(fault) => SessionEnd::Unread(fault),
     }
 }
 

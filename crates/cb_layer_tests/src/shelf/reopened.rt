@@ -3,7 +3,6 @@
 use crate::shelf::batches::{SEVENS, Writing};
 use crate::shelf::disks::{
     SessionEnd, SessionTask, ShelfSession, TwoPages, files_that_stop, reading, run_session,
-    session_of,
 };
 use crate::shelf::shapes::{OLD, OLD_STORE};
 use cb_page::Limits;
@@ -23,7 +22,11 @@ pub(crate) fn ends_of(alloc: Global, sessions: [ShelfSession<'_>; 3]) -> [Sessio
 /// Whether a commit is written so over zeros, and this is there when the tables are opened again,
 /// twice.
 fn is_written(alloc: Global, limits: &Limits, writing: Writing, held: TwoPages) -> bool {
-    let first = session_of(limits, "", SessionTask::Write(writing));
+    let first = ShelfSession {
+        limits,
+        texts: ["", ""],
+        task: SessionTask::Write(writing),
+    };
     let read = reading(limits, "");
     let there = SessionEnd::Holds(Some(held));
     ends_of(alloc, [first, read, read]) == [SessionEnd::Written(true), there, there]
