@@ -52,9 +52,10 @@ ALONE: Runs = [
 # What PROGRAM names for a run: what the gate left in the clone's crates, or SHELF.
 PLAY, TESTS = "cb_play/out/cb_play", "cb_tests/out/cb_tests_tests"
 LAYER_TESTS, SHELF = "cb_layer_tests/out/cb_layer_tests_tests", "shelf_files"
+SHELF_TESTS = "cb_shelf_tests/out/cb_shelf_tests_tests"
 PROGRAMS = dict.fromkeys(["faults", "sides", "schedules", "limits", "refused calls"], [PLAY])
 PROGRAMS |= {"refused plays": [PLAY], "refused run": [TESTS], "refused growths": [LAYER_TESTS]}
-PROGRAMS |= {"load": [LAYER_TESTS, TESTS], "files": [SHELF], "refused shelf": [SHELF]}
+PROGRAMS |= {"load": [LAYER_TESTS, SHELF_TESTS, TESTS], "files": [SHELF], "refused shelf": [SHELF]}
 LOCKS: dict[Path, threading.Lock] = {}
 
 

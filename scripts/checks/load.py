@@ -10,10 +10,10 @@ seconds. Tests that start threads have `running::` in their names.
 A line for each test: its name, how many of its runs failed, and the longest in seconds. Of a run
 that failed the last lines that it wrote stand above.
 
-It needs the tests that the gate or `rt test` built in this checkout, those of crates/cb_layer_tests
-and of crates/cb_tests, in the folder `out` of each; PROGRAM names others, with a colon between two.
-It takes more than RUNS times as long as the tests do, since the machine is busy. The status is 1
-where a run failed, and 2 where there is no test to run.
+It needs the tests that the gate or `rt test` built in this checkout: those of cb_layer_tests,
+cb_shelf_tests and cb_tests, in the folder `out` of each crate. PROGRAM names others, with a colon
+between two. It takes more than RUNS times as long as the tests do, since the machine is busy. The
+status is 1 where a run failed, and 2 where there is no test to run.
 """
 import os
 import subprocess
@@ -26,7 +26,7 @@ from pathlib import Path
 import building
 
 LIMIT = 60
-CRATES = ["cb_layer_tests", "cb_tests"]
+CRATES = ["cb_layer_tests", "cb_shelf_tests", "cb_tests"]
 
 
 def names_in(program):

@@ -1,6 +1,7 @@
-//! Tests by public calls of the layers that start no thread, a module for each, and a chooser of a
-//! caller's own with its proof. They stand apart from those of a station and of what runs, so that
-//! they are checked beside the crates below these.
+//! Tests by public calls of the layers that need no thread and no database, a module for each, and
+//! a chooser of a caller's own with its proof. They stand apart from those of a store in a database
+//! (`cb_shelf_tests`), and of a station and what runs (`cb_tests`), so that they are tried without
+//! compiling a database.
 #![tactic(auto)]
 
 mod pool;
@@ -19,7 +20,5 @@ mod example;
 mod frame;
 #[cfg(test)]
 mod server;
-#[cfg(test)]
-mod shelf;
 #[cfg(test)]
 mod texts;

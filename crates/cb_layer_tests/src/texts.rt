@@ -6,7 +6,6 @@ use cb_frame::{BytesFault, FrameFault};
 use cb_page::LimitFault;
 use cb_pool::PoolFault;
 use cb_server::ServerFault;
-use cb_shelf::ShelfFault;
 use cb_test_parts::printed::are_printed;
 use cb_transcript::{Refusal, ScheduleFault};
 use cb_twoq::ChooseFault;
@@ -80,12 +79,6 @@ static OF_REFUSALS: [(Refusal, &str); 12] = [
     (Refusal::WrongLength, "10 WrongLength"),
     (Refusal::PoolFull, "11 PoolFull"),
     (Refusal::Exhausted, "12 Exhausted"),
-];
-
-static OF_SHELVES: [(ShelfFault, &str); 3] = [
-    (ShelfFault::Shape, "1 Shape"),
-    (ShelfFault::Store, "2 Store"),
-    (ShelfFault::Memory, "3 Memory"),
 ];
 
 static OF_KEYS: [(Key, &str); 9] = [
@@ -165,7 +158,6 @@ fn texts_of_faults(rt: HostRuntime) {
     assert!(rt; are_printed(rt.alloc(), &OF_CLIENTS));
     assert!(rt; are_printed(rt.alloc(), &OF_SERVERS));
     assert!(rt; are_printed(rt.alloc(), &OF_REFUSALS));
-    assert!(rt; are_printed(rt.alloc(), &OF_SHELVES));
     assert!(rt; are_printed(rt.alloc(), &OF_SCHEDULES));
     assert!(rt; are_printed(rt.alloc(), &OF_KEYS));
     assert!(rt; configs_are_printed(rt.alloc()));

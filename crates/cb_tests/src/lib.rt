@@ -1,5 +1,5 @@
 //! Tests by public calls of the station and of what runs. Those of the layers below are in
-//! `cb_layer_tests`.
+//! `cb_layer_tests` and `cb_shelf_tests`.
 #![tactic(auto)]
 
 #[cfg(test)]

@@ -10,7 +10,7 @@ use crate::running::hurried::Hurried;
 use crate::running::looking::Looks;
 use crate::running::work::{ShelfTask, Work, WorkEnd, opening, work_on};
 use cb_page::Limits;
-use cb_test_parts::databases::{connect, files_of};
+use cb_shelf_tests::databases::{connect, files_of};
 use sqlite::{Connection, Files, Options};
 use sqlite_disk::{Crash, Disk, Fuse, Memory};
 use std::alloc::Global;

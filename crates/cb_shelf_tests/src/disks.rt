@@ -1,13 +1,13 @@
 //! Sessions over a database whose files lie on disks in memory, of which one may stop.
 
-use crate::shelf::batches::{Writing, writes};
+use crate::batches::{Writing, writes};
+use crate::databases::{connect, files_of};
 use cb_commit::Store;
 use cb_page::{Incarnation, Limits, PageNo};
 use cb_shelf::{Life, Shelf, ShelfFault};
-use cb_test_parts::databases::{connect, files_of};
-use sqlite::{Alter, Connection, Files, Options};
-use sqlite_disk::{Crash, Fuse, Memory};
-use std::alloc::Global;
+use sqlite::{Alter, Connection, FileStore, Files, Options};
+use sqlite_disk::{Crash, Disk, Fuse, Memory};
+use std::alloc::{AllocError, Global};
 
 /// A database is opened, texts run over it, and a shelf of these limits is opened; this is done to
 /// it then.
@@ -18,14 +18,22 @@ pub(crate) struct ShelfSession<'a> {
     pub(crate) task: SessionTask,
 }
 
-/// After this text a shelf is read.
-pub(crate) fn reading<'a>(limits: &'a Limits, text: &'a str) -> ShelfSession<'a> {
-    let (texts, task) = ([text, ""], SessionTask::Load);
+/// A session of one text, and of this that is done to the shelf.
+pub(crate) fn session_of<'a>(
+    limits: &'a Limits,
+    text: &'a str,
+    task: SessionTask,
+) -> ShelfSession<'a> {
     ShelfSession {
         limits,
-        texts,
+        texts: [text, ""],
         task,
     }
+}
+
+/// A session of one text, in which the shelf is read.
+pub(crate) fn reading<'a>(limits: &'a Limits, text: &'a str) -> ShelfSession<'a> {
+    session_of(limits, text, SessionTask::Load)
 }
 
 /// What is done to a shelf.
@@ -37,6 +45,10 @@ pub(crate) enum SessionTask {
     Write(Writing),
     /// A life of a server begins, and gets room for a Hello of this incarnation.
     Live(u64),
+    /// The same, and then a commit is written, as for `Writing::Once`.
+    Serve(u64),
+    /// It is read, and a life begins.
+    LoadAndLive,
 }
 
 /// How far a session came.
@@ -58,29 +70,49 @@ pub(crate) enum SessionEnd {
     Unbegun(ShelfFault),
     /// A life began with this floor; whether it got its room.
     Lived(u64, bool),
+    /// One did and got its room; whether the commit was written.
+    Served(u64, bool),
+    /// It held this, as for `Holds`, and then a life began with this floor.
+    Kept(Option<TwoPages>, u64),
 }
 
 /// A store of two pages: its number, and the version of each page and the byte that fills it.
 pub(crate) type TwoPages = (u64, [(u64, u8); 2]);
 
-/// After how many calls the disk of the log stops, and that of the database's file.
-pub(crate) type Calls = (u64, u64);
-
-/// One of the two stops after so many calls, and the other never.
-pub(crate) fn calls_of(is_log: bool, count: u64) -> Calls {
-    if is_log {
-        (count, u64::MAX)
-    } else {
-        (u64::MAX, count)
+/// New files, which don't stop.
+pub(crate) fn new_files(alloc: Global) -> Files<Fuse<Memory>> {
+    Files {
+        log: Fuse::new(Memory::new(alloc), u64::MAX),
+        db: Fuse::new(Memory::new(alloc), u64::MAX),
     }
 }
 
-/// New files, of which each stops after so many calls.
-pub(crate) fn files_that_stop(alloc: Global, calls: Calls) -> Files<Fuse<Memory>> {
-    Files {
-        log: Fuse::new(Memory::new(alloc), calls.0),
-        db: Fuse::new(Memory::new(alloc), calls.1),
-    }
+/// A disk with these bytes, which are synced. None where memory is refused.
+fn disk_of(alloc: Global, bytes: &[u8]) -> Option<Memory> {
+    let mut disk = Memory::new(alloc);
+    let is_made = disk.write_at(0, bytes).is_ok() && disk.sync().is_ok();
+    is_made.then_some(disk)
+}
+
+/// New files with the bytes of these: after so many calls the log stops, or else the other one.
+/// None where memory is refused.
+pub(crate) fn copies_that_stop(
+    alloc: Global,
+    files: &Files<Fuse<Memory>>,
+    is_log: bool,
+    count: u64,
+) -> Option<Files<Fuse<Memory>>> {
+    let log = disk_of(alloc, files.log.inner().bytes())?;
+    let db = disk_of(alloc, files.db.inner().bytes())?;
+    let (log_calls, db_calls) = if is_log {
+        (count, u64::MAX)
+    } else {
+        (u64::MAX, count)
+    };
+    Some(Files {
+        log: Fuse::new(log, log_calls),
+        db: Fuse::new(db, db_calls),
+    })
 }
 
 /// The log is copied into the file before each transaction, and two pages that were read are kept,
@@ -91,6 +123,24 @@ const OFTEN: Options = Options {
     checkpoint_frames: 1,
     seed: 1,
 };
+
+/// A database over new files, which want of memory alone refuses.
+pub(crate) fn new_database(
+    alloc: Global,
+) -> Result<Connection<FileStore<Fuse<Memory>>>, AllocError> {
+    match connect(alloc, new_files(alloc), OFTEN) {
+        Ok(conn) => Ok(conn),
+        Err(_) => Err(AllocError),
+    }
+}
+
+/// The files of a new database over which this text ran. None where it didn't run.
+pub(crate) fn files_after(alloc: Global, text: &str) -> Option<Files<Fuse<Memory>>> {
+    let mut conn = new_database(alloc).ok()?;
+    let ran = run_texts(&mut conn, [text, ""]);
+    let files = files_of(conn);
+    ran.then_some(files)
+}
 
 /// How far a session comes, and the files.
 fn session_over(
@@ -149,12 +199,26 @@ fn done<S: Alter>(
     task: SessionTask,
 ) -> SessionEnd {
     match task {
-        SessionTask::Load => match shelf.load(alloc) {
-            Ok(store) => SessionEnd::Holds(held_by(limits, &store)),
-            Err(fault) => SessionEnd::Unread(fault),
-        },
+        SessionTask::Load => read(alloc, limits, shelf),
         SessionTask::Write(writing) => SessionEnd::Written(writes(alloc, limits, shelf, writing)),
         SessionTask::Live(incarnation) => lived(shelf, incarnation),
+        SessionTask::Serve(incarnation) => match lived(shelf, incarnation) {
+            SessionEnd::Lived(floor, true) => {
+                SessionEnd::Served(floor, writes(alloc, limits, shelf, Writing::Once))
+            }
+            end => end,
+        },
+        SessionTask::LoadAndLive => match (read(alloc, limits, shelf), lived(shelf, 0)) {
+            (SessionEnd::Holds(held), SessionEnd::Lived(floor, _)) => SessionEnd::Kept(held, floor),
+            (SessionEnd::Holds(_), end) | (end, _) => end,
+        },
+    }
+}
+
+fn read<S: Alter>(alloc: Global, limits: &Limits, shelf: &mut Shelf<S>) -> SessionEnd {
+    match shelf.load(alloc) {
+        Ok(store) => SessionEnd::Holds(held_by(limits, &store)),
+        Err(fault) => SessionEnd::Unread(fault),
     }
 }
 

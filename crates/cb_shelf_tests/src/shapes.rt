@@ -1,9 +1,9 @@
 //! Which databases an open takes, and which it refuses.
 
-use crate::shelf::disks::{
-    SessionEnd, SessionTask, ShelfSession, TwoPages, files_that_stop, reading, run_session,
+use crate::disks::{
+    SessionEnd, SessionTask, ShelfSession, TwoPages, new_files, reading, run_session,
 };
-use crate::shelf::reopened::ends_of;
+use crate::reopened::ends_of;
 use cb_page::Limits;
 use cb_shelf::ShelfFault;
 use std::alloc::Global;
@@ -73,7 +73,7 @@ static EMPTIED: &'static str = "INSERT INTO page2 SELECT no, version FROM page; 
 /// What an open of new files says after these texts.
 fn opened<'a>(alloc: Global, limits: &'a Limits, tables: &'a str, second: &'a str) -> SessionEnd {
     let (texts, task) = ([tables, second], SessionTask::Load);
-    let files = files_that_stop(alloc, (u64::MAX, u64::MAX));
+    let files = new_files(alloc);
     let session = ShelfSession {
         limits,
         texts,

@@ -1,10 +1,10 @@
 //! What a shelf holds that is opened again.
 
-use crate::shelf::batches::{SEVENS, Writing};
-use crate::shelf::disks::{
-    SessionEnd, SessionTask, ShelfSession, TwoPages, files_that_stop, reading, run_session,
+use crate::batches::{SEVENS, Writing};
+use crate::disks::{
+    SessionEnd, SessionTask, ShelfSession, TwoPages, new_files, reading, run_session, session_of,
 };
-use crate::shelf::shapes::{OLD, OLD_STORE};
+use crate::shapes::{OLD, OLD_STORE};
 use cb_page::Limits;
 use cb_shelf::ShelfFault;
 use std::alloc::Global;
@@ -12,7 +12,7 @@ use std::test::Fail;
 
 /// What comes of the sessions, one after another over the same files, with a crash after each.
 pub(crate) fn ends_of(alloc: Global, sessions: [ShelfSession<'_>; 3]) -> [SessionEnd; 3] {
-    let files = files_that_stop(alloc, (u64::MAX, u64::MAX));
+    let files = new_files(alloc);
     let (first, files) = run_session(alloc, files, sessions[0]);
     let (second, files) = run_session(alloc, files, sessions[1]);
     let (third, _) = run_session(alloc, files, sessions[2]);
@@ -22,11 +22,7 @@ pub(crate) fn ends_of(alloc: Global, sessions: [ShelfSession<'_>; 3]) -> [Sessio
 /// Whether a commit is written so over zeros, and this is there when the tables are opened again,
 /// twice.
 fn is_written(alloc: Global, limits: &Limits, writing: Writing, held: TwoPages) -> bool {
-    let first = ShelfSession {
-        limits,
-        texts: ["", ""],
-        task: SessionTask::Write(writing),
-    };
+    let first = session_of(limits, "", SessionTask::Write(writing));
     let read = reading(limits, "");
     let there = SessionEnd::Holds(Some(held));
     ends_of(alloc, [first, read, read]) == [SessionEnd::Written(true), there, there]

@@ -1,6 +1,6 @@
 -- Goals of `ends_so`.
 use Rattle.cb_serve.proofs.Holding.{holds_still}
-use Rattle.cb_layer_tests.proofs.shelf.served.ends_so.Goals as goal
+use Rattle.cb_shelf_tests.proofs.served.ends_so.Goals as goal
 
 pub serve-served-requires-clause-holds : goal.serve-served-requires-clause-holds
 serve-served-requires-clause-holds g c =

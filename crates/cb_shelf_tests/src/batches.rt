@@ -1,6 +1,6 @@
 //! Commits that are written by a shelf: at once, or after refusals.
 
-use crate::shelf::disks::{TwoPages, held_by};
+use crate::disks::{TwoPages, held_by};
 use cb_commit::{Batch, Commits, Store};
 use cb_frame::{Body, Frame, ShortBody, ShortFrame, Write, Writes};
 use cb_page::{ClientNo, CommitNo, GrantNo, Incarnation, Limits, PageNo, TxnNo};

@@ -1,10 +1,10 @@
-//! A service of frames over a store in memory: what it puts out, what it keeps, and how it ends.
+//! A service of frames over disks in memory: what it puts out, what it keeps, and how it ends.
 //! The bytes were spelled by hand from the table of frames.
 
 ghost use Rattle.std.specs.Prelude.{◌≡◌};
 
-use crate::shelf::batches::{SEVENS, ZEROS};
-use crate::shelf::disks::{TwoPages, held_by};
+use crate::batches::{SEVENS, ZEROS};
+use crate::disks::{TwoPages, held_by, new_database};
 use cb_page::Limits;
 use cb_serve::{print_served, serve};
 use cb_shelf::Shelf;
@@ -150,7 +150,7 @@ fn puts_out<R: Read>(
 ) -> Result<bool, AllocError> {
     let wanted = joined(alloc, pieces)?;
     let mut output = Vec::new(alloc);
-    let conn = Connection::open_in_memory(alloc)?;
+    let conn = new_database(alloc)?;
     let (ends, _conn) = serves(alloc, conn, input, &mut output, ending);
     Ok(ends && output.as_slice() == wanted.as_slice())
 }
@@ -319,7 +319,7 @@ fn is_refused(
     let mut bytes = vec![in alloc; 255u8; room.min(200)]?;
     let mut output = bytes.as_mut_slice();
     let mut reader = input.as_slice();
-    let conn = Connection::open_in_memory(alloc)?;
+    let conn = new_database(alloc)?;
     let (ends, _conn) = serves(alloc, conn, &mut reader, &mut output, ("", None, held));
     Ok(ends && wanted.as_slice().starts_with(bytes.as_slice()))
 }
@@ -350,7 +350,7 @@ fn goes_on(alloc: Global) -> Result<bool, AllocError> {
     let ending = ("", Some(0), SEVENS);
     let (mut former, mut output) = (Vec::new(alloc), Vec::new(alloc));
     let (mut first, mut second) = (commits.as_slice(), reads.as_slice());
-    let conn = Connection::open_in_memory(alloc)?;
+    let conn = new_database(alloc)?;
     let (began, conn) = serves(alloc, conn, &mut first, &mut former, ending);
     let (went_on, _conn) = serves(alloc, conn, &mut second, &mut output, ending);
     Ok(began && went_on && output.as_slice() == wanted.as_slice())
