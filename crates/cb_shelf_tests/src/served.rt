@@ -121,7 +121,8 @@ fn ends_so<S: Alter, R: Read, W: Write>(
     }
 }
 
-/// Whether a service over the store in a database ends so; the database comes back.
+/// Whether a service of as many clients as there may be, over the store in a database, ends so. The
+/// database comes back.
 fn serves<S: Alter, R: Read, W: Write>(
     alloc: Global,
     conn: Connection<S>,
@@ -129,7 +130,7 @@ fn serves<S: Alter, R: Read, W: Write>(
     output: &mut W,
     ending: ServiceEnd<'_>,
 ) -> (bool, Connection<S>) {
-    let Ok(limits) = Limits::new(2, 2, 16, 2, 1, 1) else {
+    let Ok(limits) = Limits::new(32, 2, 16, 2, 1, 1) else {
         return (false, conn);
     };
     match Shelf::open(alloc, conn, &limits) {

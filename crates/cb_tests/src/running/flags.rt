@@ -8,6 +8,7 @@ use std::sync::Wait;
 use std::sync::atomic::{AtomicU64, Ordering};
 use std::thread;
 use std::thread::Threads;
+use std::time::{Clock, Duration};
 
 /// Whether the office is closed, and whether it is halted.
 pub(crate) type Flags = (bool, bool);
@@ -34,6 +35,8 @@ pub(crate) enum Moment {
     Commit,
     /// It does so, and waits by the same guard until the office is closed.
     CommitAndWait,
+    /// Waits with a limit end, though nobody tells of anything.
+    ShortWaits,
 }
 
 /// The client joins, so that there is a Welcome to it, of which the guard tells as the lock goes;
@@ -81,8 +84,16 @@ fn commit_and_wait<R: Wait>(rt: &R, alloc: Global, office: &Office) {
     unreachable!()
 }
 
+/// Waits for a frame to client 0 and for a commit, a millisecond each. Neither comes.
+fn wait_shortly<R: Wait + Clock>(rt: &R, office: &Office) {
+    let limit = Duration::from_millis(1);
+    let station = office.lock_to_wait(rt);
+    let station = office.wait_for_frame_at_most(rt, station, ClientNo::new(0), limit);
+    let _station = office.wait_for_commit(rt, station, CommitNo::new(1), limit);
+}
+
 /// It happens.
-fn happens<R: Wait>(rt: &R, alloc: Global, office: &Office, moment: Moment) {
+fn happens<R: Wait + Clock>(rt: &R, alloc: Global, office: &Office, moment: Moment) {
     match moment {
         Moment::Nothing => {}
         Moment::EndOfWork => office.end_work(rt),
@@ -92,6 +103,7 @@ fn happens<R: Wait>(rt: &R, alloc: Global, office: &Office, moment: Moment) {
         Moment::Greeting => greet(rt, alloc, office, ClientNo::new(1)),
         Moment::Commit => commit_first(rt, alloc, office),
         Moment::CommitAndWait => commit_and_wait(rt, alloc, office),
+        Moment::ShortWaits => wait_shortly(rt, office),
     }
 }
 
@@ -102,7 +114,7 @@ fn has_flags<R: Wait>(rt: &R, office: &Office, flags: Flags) -> bool {
 }
 
 /// Whether each of these moments leaves its flags.
-pub(crate) fn follows<R: Wait>(
+pub(crate) fn follows<R: Wait + Clock>(
     rt: &R,
     alloc: Global,
     office: &Office,
@@ -156,6 +168,12 @@ fn closed_and_halted(rt: HostRuntime) {
     );
 }
 
+#[test]
+fn waits_end_at_their_limits(rt: HostRuntime) {
+    let waits = [(Moment::ShortWaits, OPEN)];
+    assert!(rt; goes_well(Trial::Flagged(1, &waits), &rt, rt.alloc()));
+}
+
 /// How many wait.
 const WAITING: u64 = 2;
 
@@ -203,7 +221,7 @@ fn spin_until_all<R: Wait>(rt: &R, counted: &AtomicU64) {
 
 /// Threads wait, and this one wakes them once all do: each counts itself under the lock, which it
 /// lets go only by waiting. What they counted.
-fn count_woken<R: Wait + Threads + Sync>(
+fn count_woken<R: Wait + Threads + Clock + Sync>(
     rt: &R,
     alloc: Global,
     office: &Office,
@@ -227,7 +245,7 @@ fn count_woken<R: Wait + Threads + Sync>(
 }
 
 /// Whether all that wait are woken by it, and the flags are what it makes of them.
-pub(crate) fn wakes<R: Wait + Threads + Sync>(
+pub(crate) fn wakes<R: Wait + Threads + Clock + Sync>(
     rt: &R,
     alloc: Global,
     office: &Office,

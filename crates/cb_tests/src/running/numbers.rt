@@ -114,8 +114,9 @@ fn are_its_own<R: Wait>(
     Ok(true)
 }
 
-/// Whether a worker of the client, in an incarnation that is no other client's, has such
-/// transactions at the page of its number.
+/// Whether a worker of the client behind that number, in an incarnation that is no other client's,
+/// has such transactions at the page of the number. So none is client 0, and nobody wakes those who
+/// wait as that one.
 fn works<R: Wait>(
     rt: &R,
     alloc: Global,
@@ -123,7 +124,7 @@ fn works<R: Wait>(
     office: &Office,
     number: u64,
 ) -> Option<bool> {
-    let client = ClientNo::in_store(limits, number)?;
+    let client = ClientNo::in_store(limits, number.wrapping_add(1))?;
     let page = PageNo::in_store(limits, number)?;
     let incarnation = Incarnation::checked(if number == 0 { 5 } else { 6 })?;
     let Ok(chooser) = TwoQ::make(alloc, limits) else {

@@ -56,10 +56,12 @@ impl Watch for Told {
     fn waits(&mut self) {}
 }
 
-/// Notes which batches were told of, and after how many commits the flusher waits.
+/// Notes which batches were told of, whether each ends behind the one before, and after how many
+/// commits the flusher waits.
 #[derive(Drop)]
 struct Waited<'a> {
     told: Told,
+    rises: bool,
     counts: &'a Counts,
 }
 
@@ -69,6 +71,7 @@ impl Watch for Waited<'_> {
     fn begins(&mut self, _jobs: u64, _number: u64) {}
 
     fn flushed(&mut self, number: CommitNo) {
+        self.rises = self.rises && number.get() > self.told.last;
         self.told.flushed(number);
     }
 
@@ -209,6 +212,7 @@ pub(crate) fn came_in<R: Threads + Wait + Clock + Sync, S: Alter>(
     prepare(rt, alloc, office, counts.plan.act);
     let mut watch = Waited {
         told: Told::none(),
+        rises: true,
         counts,
     };
     let mut out = Vec::new(alloc);
@@ -221,7 +225,7 @@ pub(crate) fn came_in<R: Threads + Wait + Clock + Sync, S: Alter>(
     );
     let answered = counts.answered.load(Ordering::SeqCst);
     let whole = is_whole(&office.lock(rt), watch.told.last) && counts.is_well(answered);
-    if !are_fair(office.lock(rt).window(), answered) {
+    if !watch.rises || !are_fair(office.lock(rt).window(), answered) {
         return Came::Wrong;
     }
     match status_of(ran) {
