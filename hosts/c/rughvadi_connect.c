@@ -38,7 +38,6 @@ static bool token_of(uint8_t token[RUGHVADI_TOKEN], const char *digits) {
   if (strlen(digits) != DIGITS) {
     return false;
   }
-  memset(token, 0, RUGHVADI_TOKEN);
   for (size_t place = 0; place < DIGITS; place++) {
     const char *digit = strchr(known, digits[place]);
     if (digit == NULL) {

@@ -8,8 +8,9 @@ It installs the library in a folder of its own, by `scripts/library`, and runs, 
 - a million random calls, with damaged frames, by a program that is built with ASan and UBSan; after
   each that is refused all is as it was
 - a link in C: greetings that are answered and refused, signals, and that it is gone with its
-  connection, and wherever the sending of a frame ends early; several addresses, and limits of time;
-  the tries of a job, and Drops that wait
+  connection, and wherever the sending of a frame ends early; frames that go and come in pieces,
+  and bytes that are none; several addresses, and limits of time; the tries of a job, and Drops that
+  wait
 - a server and two clients in one process, over frames of which a tenth is lost, repeated or late,
   for so many seeds (10 if not said; an odd one keeps write permissions): each transaction checks
   a sum over all pages
@@ -49,8 +50,9 @@ HOSTS = building.TOP / "hosts"
 # The programs in C that call the library in one process, with the name of each one's run.
 SOAKS = {
     "refused_growths": "refused growths", "random_calls": "random calls",
-    "link": "links at their end", "sending": "sendings that end early", "tries": "tries of a job",
-    "drops": "drops that wait", "addresses": "several addresses",
+    "link": "links at their end", "sending": "sendings, whole and ended early",
+    "coming": "what comes to a link", "tries": "tries of a job", "drops": "drops that wait",
+    "addresses": "several addresses",
 }
 EACH = 100
 

@@ -5,11 +5,11 @@
 
 #include <arpa/inet.h>
 #include <errno.h>
-#include <fcntl.h>
 #include <netinet/tcp.h>
+#include <stddef.h>
 #include <sys/un.h>
 
-enum { PATH = 128, LIST = 512, FILES = 64, FULL = 16, LIMIT_MS = 50, FOREVER = -1 };
+enum { PATH = 128, LIST = 512, FULL = 16, LIMIT_MS = 50, FOREVER = -1 };
 
 static char folder[] = "/tmp/rughvadi_addresses_XXXXXX";
 static uint8_t token[RUGHVADI_TOKEN];
@@ -78,14 +78,6 @@ static void hold_full(const char *address) {
 }
 
 /* ---- this end ---- */
-
-static int open_files(void) {
-  int count = 0;
-  for (int fd = 0; fd < FILES; fd++) {
-    count += fcntl(fd, F_GETFD) >= 0;
-  }
-  return count;
-}
 
 /* The addresses of these sockets in the folder. */
 static const char *listed(const char *names) {
@@ -248,9 +240,59 @@ static bool over_ipv6(void) {
   return true;
 }
 
+/* Text that is so long, with a '/' in front. */
+static const char *long_path(size_t size) {
+  static char path[LIST];
+  memset(path, 'a', size);
+  path[0] = '/';
+  path[size] = 0;
+  return path;
+}
+
+static void hold_undialled(const char *address, int why) {
+  int fd = 0, before = open_files();
+  HOLD(rughvadi_dial(address, &fd) == RUGHVADI_CONNECT_SYSTEM && fd == -1 && errno == why);
+  HOLD(open_files() == before);
+}
+
+/* Paths and addresses that are too long or have no port aren't dialled. One of a list is passed
+ * over. */
+static void no_addresses(void) {
+  const size_t most = sizeof(struct sockaddr_un) - offsetof(struct sockaddr_un, sun_path) - 1;
+  hold_undialled(long_path(most), ENOENT);
+  hold_undialled(long_path(most + 1), ENAMETOOLONG);
+  hold_undialled("127.0.0.1", EINVAL);
+  hold_undialled("127.0.0.1:no port", EADDRNOTAVAIL);
+  char list[2 * LIST];
+  snprintf(list, sizeof list, "%sa:1", long_path(256) + 1);
+  hold_undialled(list, EINVAL);
+  pid_t child = gateway(local("behind", 8), 0);
+  snprintf(list, sizeof list, "%s,127.0.0.1,%s", long_path(256), listed("behind"));
+  rughvadi_gateways gateways = {.addresses = list};
+  WANT(connected(&gateways));
+  end(child);
+  gateways.addresses = long_path(256);
+  HOLD(connected(&gateways) == RUGHVADI_CONNECT_SYSTEM && errno == ENAMETOOLONG);
+}
+
+/* The name of a store has up to 63 letters; of a longer one nothing is sent. */
+static void names_of_stores(void) {
+  int pair[2];
+  rughvadi_seat seat;
+  uint8_t came[LIST];
+  HOLD(socketpair(AF_UNIX, SOCK_STREAM, 0, pair) == 0);
+  const char *name = long_path(64);
+  HOLD(rughvadi_greet(pair[0], token, name, &seat) == RUGHVADI_CONNECT_GREETING);
+  HOLD(rughvadi_greet_within(pair[0], token, name + 1, 0, &seat) == RUGHVADI_CONNECT_SYSTEM);
+  HOLD(errno == ETIMEDOUT && read(pair[1], came, sizeof came) == GREETING - 4 + 63);
+  HOLD(came[9] == 63 && memcmp(came + GREETING - 4, name + 1, 63) == 0);
+  close(pair[0]);
+  close(pair[1]);
+}
+
 static void remove_all(void) {
-  static const char *const names[] = {"silent", "later", "up",   "greeting", "token",
-                                      "store",  "client", "down", "one",      "two"};
+  static const char *const names[] = {"silent", "later", "up",  "greeting", "token", "store",
+                                      "client", "down",  "one", "two",      "behind"};
   for (size_t at = 0; at < sizeof names / sizeof names[0]; at++) {
     HOLD(unlink(path_of(names[at]).sun_path) == 0);
   }
@@ -263,6 +305,8 @@ int main(void) {
   limits_of_time();
   lists();
   turns();
+  no_addresses();
+  names_of_stores();
   over_tcp();
   bool has_ipv6 = over_ipv6();
   remove_all();

@@ -25,8 +25,14 @@ static int64_t clock_ns; /* what the clock shows */
 /* What the test does with a frame's next bytes, before the server gets them: how many go, or below
  * 0 with errno. NULL: all go. */
 static ssize_t (*on_send)(const uint8_t *bytes, size_t len, size_t before);
+/* What a receipt comes to, with errno, in place of what came. NULL, or above 0: what came. */
+static ssize_t (*on_receive)(void);
 /* What happens as the link waits for something, so many nanoseconds. NULL: nothing. */
 static void (*on_wait)(int64_t wait_ns);
+/* A wait until bytes go ends at once. Otherwise it is in vain. */
+static bool has_room;
+
+#define FOR_EVER INT64_MAX /* what a wait without a bound is given as */
 
 /* ---- the server, its disk and the other client ---- */
 
@@ -104,28 +110,35 @@ ssize_t send(int socket, const void *bytes, size_t len, int flags) {
   return goes;
 }
 
+ssize_t recv(int socket, void *room, size_t len, int flags) {
+  ssize_t came = on_receive != NULL ? on_receive() : 1;
+  return came > 0 ? recvfrom(socket, room, len, flags, NULL, NULL) : came;
+}
+
 int clock_gettime(clockid_t clock, struct timespec *time) {
   (void)clock;
   *time = (struct timespec){.tv_sec = clock_ns / 1000000000, .tv_nsec = clock_ns % 1000000000};
   return 0;
 }
 
-/* Stands in place of `ppoll`. Bytes go when `send` says so alone; what came lies in the socket. */
+/* Stands in place of `ppoll`. What came lies in the socket. */
 int watch_inside(struct pollfd *watched, nfds_t count, const struct timespec *most,
                  const sigset_t *signals) __asm__("ppoll");
 
 int watch_inside(struct pollfd *watched, nfds_t count, const struct timespec *most,
                  const sigset_t *signals) {
   (void)signals;
-  HOLD(count == 1 && watched->fd == ours && most != NULL);
-  int64_t wait = (int64_t)most->tv_sec * 1000000000 + most->tv_nsec;
+  HOLD(count == 1 && watched->fd == ours);
+  int64_t wait =
+      most == NULL ? FOR_EVER : (int64_t)most->tv_sec * 1000000000 + most->tv_nsec;
   if (wait > 0 && on_wait != NULL) {
     on_wait(wait);
   }
   struct timespec none = {0};
   int ready = watched->events == POLLIN
                   ? (int)syscall(SYS_ppoll, watched, count, &none, NULL, 0)
-                  : 0;
+                  : has_room;
+  HOLD(ready > 0 || wait < FOR_EVER);
   clock_ns += ready == 0 ? wait : 0;
   return ready;
 }
@@ -139,7 +152,9 @@ static void begin_inside(void) {
   theirs = pair[1];
   sent_len = 0;
   on_send = NULL;
+  on_receive = NULL;
   on_wait = NULL;
+  has_room = false;
   WANT(rughvadi_server_new(&limits, &server));
   WANT(rughvadi_client_new(&limits, OTHER, 1, &other));
   WANT(rughvadi_client_hello(&other));
@@ -155,7 +170,7 @@ static void end_inside(rughvadi_link *link) {
 }
 
 /* The other client begins a transaction and reads a page; it may read it at once or later. */
-static void other_reads(uint32_t page) {
+static inline void other_reads(uint32_t page) {
   uint64_t txn;
   uint8_t room[SIZE];
   bool here = false;
@@ -165,7 +180,7 @@ static void other_reads(uint32_t page) {
 }
 
 /* The other client wants to write a page that it has read; it may at once or later. */
-static void other_wants(uint32_t page) {
+static inline void other_wants(uint32_t page) {
   uint8_t room[SIZE];
   bool here = false, may = false;
   WANT(rughvadi_client_read(&other, page, room, SIZE, &here));
@@ -174,7 +189,7 @@ static void other_wants(uint32_t page) {
   pass_other();
 }
 
-static void other_drops(void) {
+static inline void other_drops(void) {
   WANT(rughvadi_client_drop(&other));
   pass_other();
 }

@@ -70,6 +70,28 @@ static void greet(const uint8_t what[2], size_t count, uint32_t wanted) {
   ended(child);
 }
 
+/* Each number of an answer is where it belongs. */
+static void numbers(void) {
+  uint8_t token[RUGHVADI_TOKEN], bytes[ANSWER] = {1, 0};
+  rughvadi_seat seat = {0};
+  memset(token, 7, sizeof token);
+  for (uint8_t place = 2; place < ANSWER; place++) {
+    bytes[place] = place;
+  }
+  pid_t child = forked();
+  if (child == 0) {
+    hear_greeting(theirs);
+    HOLD(send(theirs, bytes, ANSWER, MSG_NOSIGNAL) == ANSWER);
+    exit(0);
+  }
+  WANT(rughvadi_greet(ours, token, "main", &seat));
+  HOLD(seat.client == 0x0203 && seat.incarnation == 0x0405060708090a0b);
+  const rughvadi_limits wanted = {0x0c0d0e0f, 0x10111213, 0x14151617, 0x18191a1b,
+                                  0x1c1d1e1f, 0x20212223, 0x24252627};
+  HOLD(memcmp(&seat.limits, &wanted, sizeof wanted) == 0);
+  ended(child);
+}
+
 static void greetings(void) {
   static const uint32_t wanted[] = {
       RUGHVADI_DONE,           RUGHVADI_CONNECT_GREETING, RUGHVADI_CONNECT_TOKEN,
@@ -101,6 +123,7 @@ static void tokens(void) {
   put_digits(file, "aB", RUGHVADI_TOKEN + 1);
   fputs("\n", file);
   HOLD(fclose(file) == 0);
+  int before = open_files();
   WANT(rughvadi_token_read(path, 1, token));
   HOLD(token[0] == 0xab && token[RUGHVADI_TOKEN - 1] == 0xab);
   for (uint32_t client = 0; client < 5; client += client == 0 ? 2 : 1) {
@@ -108,6 +131,7 @@ static void tokens(void) {
   }
   unlink(path);
   HOLD(rughvadi_token_read(path, 1, token) == RUGHVADI_CONNECT_SYSTEM);
+  HOLD(open_files() == before);
 }
 
 /* The connection ends, or a call of the system fails, amid a transaction that holds a page. */
@@ -255,6 +279,7 @@ static void unopened(void) {
 
 int main(void) {
   greetings();
+  numbers();
   tokens();
   unopened();
   gone(false);

@@ -5,13 +5,14 @@
 #include "parties.h"
 #include "rughvadi_connect.h"
 
+#include <fcntl.h>
 #include <signal.h>
 #include <sys/prctl.h>
 #include <sys/socket.h>
 #include <sys/wait.h>
 #include <unistd.h>
 
-enum { SIZE = 64, GREETING = 8 + 1 + 1 + RUGHVADI_TOKEN + 4, ANSWER = 40 };
+enum { SIZE = 64, GREETING = 8 + 1 + 1 + RUGHVADI_TOKEN + 4, ANSWER = 40, FILES = 64 };
 
 static const rughvadi_limits limits = {2, 4, SIZE, 4, 1, 4, 0};
 
@@ -60,14 +61,20 @@ static inline void serve(int connection) {
   rughvadi_free(&server);
 }
 
-/* A gateway that answers a greeting, with so many bytes of the answer. */
-static inline void answer(int connection, const uint8_t what[2], size_t count) {
-  uint8_t greeting[GREETING], bytes[ANSWER] = {what[0], what[1], 0, 1};
+/* A gateway hears a greeting. */
+static inline void hear_greeting(int connection) {
+  uint8_t greeting[GREETING];
   HOLD(recv(connection, greeting, sizeof greeting, MSG_WAITALL) == GREETING);
   HOLD(memcmp(greeting, "rughvadi\1\4", 10) == 0 && memcmp(greeting + 42, "main", 4) == 0);
   for (int place = 0; place < RUGHVADI_TOKEN; place++) {
     HOLD(greeting[10 + place] == 7);
   }
+}
+
+/* A gateway that answers a greeting, with so many bytes of the answer. */
+static inline void answer(int connection, const uint8_t what[2], size_t count) {
+  uint8_t bytes[ANSWER] = {what[0], what[1], 0, 1};
+  hear_greeting(connection);
   static const uint8_t numbers[] = {2, 4, SIZE, 4, 1, 4, 0};
   for (int place = 0; place < 7 && what[1] == 0; place++) {
     bytes[15 + 4 * place] = numbers[place];
@@ -84,6 +91,15 @@ static inline pid_t process(void) {
     HOLD(prctl(PR_SET_PDEATHSIG, SIGKILL) == 0 && getppid() == parent);
   }
   return child;
+}
+
+/* How many files this process has open, of the first few. */
+static inline int open_files(void) {
+  int count = 0;
+  for (int fd = 0; fd < FILES; fd++) {
+    count += fcntl(fd, F_GETFD) >= 0;
+  }
+  return count;
 }
 
 /* Waits for a process, which ends well. */

@@ -1,13 +1,15 @@
 /* sending: whatever ends the sending of a frame early, the link is gone and sends nothing more. A
  * scene has each kind of frame that a client says. It is played anew for each of them and for each
  * count of its bytes: the sending ends there by a jump, as out of a signal's handler, by a system
- * call that fails, and by an end that takes nothing for as long as an answer is awaited. */
+ * call that fails, and by an end that takes nothing for as long as an answer is awaited. Where the
+ * other end takes some bytes at a time, and none now and then, each frame goes whole. */
 #include "inside.h"
 
 #include <setjmp.h>
 
 enum { WAIT_MS = 70, TRIES = 2, KINDS = RUGHVADI_KIND_DOWNGRADED };
-enum how { BY_JUMP, BY_ERROR, BY_END, BY_SILENCE, WAYS };
+enum { OPENING_MS = 31 * 1000 }; /* so long a link that is opened waits for room */
+enum how { BY_JUMP, BY_ERROR, BY_END, BY_RESET, BY_SILENCE, WAYS };
 
 static enum how how;
 static uint32_t kind; /* of the frame whose sending ends early */
@@ -33,7 +35,9 @@ static ssize_t end_early(const uint8_t *bytes, size_t len, size_t before) {
   if (how == BY_JUMP) {
     longjmp(out, 1);
   }
-  errno = how == BY_ERROR ? EIO : how == BY_END ? EPIPE : EAGAIN;
+  static const int faults[WAYS] = {
+      [BY_ERROR] = EIO, [BY_END] = EPIPE, [BY_RESET] = ECONNRESET, [BY_SILENCE] = EAGAIN};
+  errno = faults[how];
   return -1;
 }
 
@@ -104,8 +108,10 @@ static void hold_gone(rughvadi_link *link) {
 
 /* The fault that the call answers whose sending ends so. */
 static void hold_fault(uint32_t fault, int why, int64_t waited) {
-  HOLD(fault == (how == BY_END ? RUGHVADI_LINK_CLOSED : RUGHVADI_LINK_SYSTEM));
-  HOLD(how != BY_SILENCE || (why == ETIMEDOUT && waited >= (TRIES + 1) * WAIT_MS * 1000000ll));
+  bool has_ended = how == BY_END || how == BY_RESET;
+  HOLD(fault == (has_ended ? RUGHVADI_LINK_CLOSED : RUGHVADI_LINK_SYSTEM));
+  int64_t wait_ms = kind == RUGHVADI_KIND_HELLO ? OPENING_MS : (TRIES + 1) * WAIT_MS;
+  HOLD(how != BY_SILENCE || (why == ETIMEDOUT && waited == wait_ms * 1000000));
 }
 
 static void play_ended(void) {
@@ -148,6 +154,74 @@ static int end_each(const size_t whole[KINDS + 1]) {
   return count + end_behind_each(whole[kind]);
 }
 
+/* ---- frames that go in pieces ---- */
+
+static size_t piece; /* so many bytes go at a time, at most */
+static int calls;
+static int64_t awaited; /* nanoseconds: by the first wait; 0: there was none */
+
+/* Of three calls a signal ends the first, and the second one finds no room. */
+static ssize_t send_piece(const uint8_t *bytes, size_t len, size_t before) {
+  (void)bytes;
+  (void)before;
+  calls++;
+  if (calls % 3 != 0) {
+    errno = calls % 3 == 1 ? EINTR : EAGAIN;
+    return -1;
+  }
+  return (ssize_t)(len < piece ? len : piece);
+}
+
+static void note_wait(int64_t wait_ns) { awaited = awaited == 0 ? wait_ns : awaited; }
+
+/* All frames of the scene, in pieces: as many of each kind, and as long. */
+static void play_in_pieces(size_t of) {
+  static rughvadi_link link;
+  static uint32_t wanted[256];
+  static size_t long_as[256];
+  memcpy(wanted, counts, sizeof wanted);
+  memcpy(long_as, lengths, sizeof long_as);
+  memset(counts, 0, sizeof counts);
+  begin_inside();
+  piece = of;
+  has_room = true;
+  on_send = send_piece;
+  WANT(play(&link));
+  HOLD(sent_len == 0 && memcmp(counts, wanted, sizeof counts) == 0);
+  HOLD(memcmp(lengths, long_as, sizeof lengths) == 0);
+  end_inside(&link);
+}
+
+/* Asks for a page that isn't held, where the other end has no room at first: for how long room is
+ * awaited then. */
+static int64_t wait_for_room(int wait_ms, int tries, bool comes, uint32_t fault) {
+  static rughvadi_link link;
+  uint8_t page[SIZE];
+  begin_inside();
+  WANT(rughvadi_link_open(&link, &limits, OURS, 1, ours));
+  WANT(rughvadi_link_begin(&link));
+  link.wait_ms = wait_ms;
+  link.tries = tries;
+  piece = MOST;
+  calls = 1; /* the next one finds no room */
+  awaited = 0;
+  has_room = comes;
+  on_send = send_piece;
+  on_wait = note_wait;
+  HOLD(rughvadi_link_fetch(&link, 1, page, SIZE) == fault);
+  int64_t found = awaited;
+  end_inside(&link);
+  return found;
+}
+
+static void waits_for_room(void) {
+  HOLD(wait_for_room(WAIT_MS, TRIES, true, RUGHVADI_DONE) == (TRIES + 1) * WAIT_MS * 1000000ll);
+  HOLD(wait_for_room(-1, TRIES, true, RUGHVADI_DONE) == FOR_EVER);
+  HOLD(wait_for_room(WAIT_MS, -1, true, RUGHVADI_DONE) == FOR_EVER);
+  HOLD(wait_for_room(WAIT_MS, 0, false, RUGHVADI_LINK_SYSTEM) == WAIT_MS * 1000000ll);
+  HOLD(wait_for_room(0, TRIES, false, RUGHVADI_LINK_SYSTEM) == 0);
+}
+
 int main(void) {
   static rughvadi_link link;
   begin_inside();
@@ -155,6 +229,10 @@ int main(void) {
   end_inside(&link);
   size_t whole[KINDS + 1];
   memcpy(whole, lengths, sizeof whole);
+  for (size_t of = 1; of <= 40; of++) {
+    play_in_pieces(of);
+  }
+  waits_for_room();
   int count = 0;
   for (int way = 0; way < WAYS; way++) {
     how = (enum how)way;
