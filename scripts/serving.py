@@ -174,6 +174,34 @@ def put_clock(room: Path, seconds: int) -> None:
     os.close(file)
 
 
+class HeldSyncs:
+    """Syncs of files that are held, for a while, in a program that begins with this environment."""
+
+    def __init__(self, room: Path) -> None:
+        self.fifo, self.file = room / "held_syncs", -1
+        self.env = {"LD_PRELOAD": str(building.library_in_c("sync", room, "-ldl")),
+                    "HELD_SYNC": str(self.fifo), "ASAN_OPTIONS": "verify_asan_link_order=0"}
+
+    def begin(self) -> None:
+        """From now on each sync is held."""
+        os.mkfifo(self.fifo)
+
+    def wait(self) -> None:
+        """Waits until one is."""
+        if not wait_for(self.is_one_held):
+            raise ValueError("nobody waits for a sync")
+
+    def is_one_held(self) -> bool:
+        with contextlib.suppress(OSError):
+            self.file = os.open(self.fifo, os.O_WRONLY | os.O_NONBLOCK)
+        return self.file >= 0
+
+    def end(self) -> None:
+        """None is from now on, and the one that is goes on."""
+        self.fifo.unlink()
+        os.close(self.file)
+
+
 def free_port() -> int:
     """A port that nobody listens at now."""
     with socket.socket() as free:

@@ -6,6 +6,8 @@ the number of the last commit is the sum of all counters.
 """
 from __future__ import annotations
 
+import os
+import select
 import signal
 import socket
 import stat
@@ -15,7 +17,9 @@ from pathlib import Path
 import building
 import serving
 from checks.bad_input import Peer
-from checks.frames import ASK_READ, HEADER, HELLO, frame, of_read
+from checks.frames import (
+    ASK_READ, COMMIT, DONE, GRANTED, HEADER, HELLO, frame, of_commit, of_read,
+)
 from checks.trying import file_faults, opened, ran, rows_of, said
 from serving import wait_for
 
@@ -33,10 +37,10 @@ class Host:
         self.client = serving.in_c(building.PROGRAMS / "c/serve_client.c", room, library)
         self.store, self.socket = room / "pages.db", room / "socket"
 
-    def start(self) -> subprocess.Popen:
+    def start(self, **env: str) -> subprocess.Popen:
         words = [self.program, self.socket, self.store, CLIENTS, PAGES, SIZE, 0]
         with (self.room / "log").open("ab") as log:
-            both = {"stdout": subprocess.PIPE, "stderr": log}
+            both = {"stdout": subprocess.PIPE, "stderr": log, "env": {**os.environ, **env}}
             begun = subprocess.Popen(list(map(str, words)), umask=0, **both)
         if not begun.stdout or begun.stdout.readline() != b"ready\n":
             raise building.NotBuilt("served didn't start: " + self.log())
@@ -177,6 +181,24 @@ def lives(it: Host) -> str:
     return "" if right and status == 0 else f"{found}, {status}: {it.log()}"
 
 
+def answers_after_a_sync(it: Host) -> str:
+    """While the sync of a commit is held it isn't answered."""
+    syncs = serving.HeldSyncs(it.room)
+    server = it.start(**syncs.env)
+    with Caller(it, 1) as peer:
+        peer.welcome().say(ASK_READ, of_read(1, 0))
+        heard = [peer.hear()[0]]
+        syncs.begin()
+        peer.say(COMMIT, of_commit(1))
+        syncs.wait()
+        is_early = bool(select.select([peer.socket], [], [], 0)[0])
+        syncs.end()
+        heard.append(peer.hear()[0])
+    status = ended(server, signal.SIGTERM)
+    right = heard == [GRANTED, DONE] and not is_early and status == 0
+    return "" if right else f"{heard}, {is_early}, {status}: {it.log()}"
+
+
 def no_socket(it: Host) -> str:
     """Where its socket would be is a file of another kind: it doesn't begin, and the file stays."""
     other = it.room / "other"
@@ -214,6 +236,7 @@ def tried(tries, it) -> None:
     room = it.room / "serve_host"
     room.mkdir()
     host = Host(room, it.library)
-    scenes = (copies, killed, wrong_frames, lives, no_socket, strangers, owned_files)
+    scenes = (copies, killed, wrong_frames, lives, answers_after_a_sync, no_socket, strangers,
+              owned_files)
     for scene in scenes:
         tries.scene("the host in C", scene, host, log=host.log)

@@ -22,9 +22,10 @@ from checks.frames import (
 )
 from checks.serve_input import CLIENTS, PAGES, Scene
 from checks.trying import PIPES, opened, rows_of
-from serving import wait_for
+from serving import HeldSyncs
 
 KILLS = 30
+FLOOD = 1 << 24  # bytes that come while a sync is held
 CLOCK = 1 << 50  # as microseconds since 1970 are
 
 
@@ -217,42 +218,64 @@ def in_turn(it: Store) -> str:
     return "" if rise else f"{floors}"
 
 
-def read_beside_a_sync(room: Path, serve: Path) -> str:
-    """While the sync of a commit is held, others' reads are answered, and the commit isn't."""
-    store, fifo = Store(room, (serve,), (), None), room / "fifo"
-    env = {**os.environ, "LD_PRELOAD": str(building.library_in_c("sync", room, "-ldl")),
-           "HELD_SYNC": str(fifo), "ASAN_OPTIONS": "verify_asan_link_order=0"}
-    server = Server(store.words(), env=env)
+def commit_under_a_sync(room: Path, words: tuple, reads: bool) -> str:
+    """While the sync of a commit is held it isn't answered; others' reads are, where they may."""
+    store, syncs = Store(room, words, (), None), HeldSyncs(room)
+    server = Server(store.words(), env={**os.environ, **syncs.env})
+    asks = [frame(ASK_READ, it, server.floor, of_read(1, it)) for it in range(2)]
     try:
-        reads = [frame(ASK_READ, it, server.floor, of_read(1, it)) for it in range(2)]
-        hellos = [frame(HELLO, it, server.floor) for it in range(2)]
-        server.say(*hellos, reads[0])
+        server.say(*(frame(HELLO, it, server.floor) for it in range(2)), asks[0])
         heard = [server.hear()[0] for _ in range(3)]
-        os.mkfifo(fifo)
+        syncs.begin()
         server.say(frame(COMMIT, 0, server.floor, of_commit(1)))
-        held = opened_once_read(fifo)
-        server.say(reads[1])
-        heard.append(server.hear()[0])
-        fifo.unlink()
-        os.close(held)
-        heard.append(server.hear()[0])
+        syncs.wait()
+        server.say(asks[1])
+        heard += [server.hear()[0]] if reads else []
+        is_early = bool(select.select([server.process.stdout], [], [], 0)[0])
+        syncs.end()
+        heard += [server.hear()[0] for _ in range(1 if reads else 2)]
     finally:
         server.end()
-    return "" if heard == [WELCOME, WELCOME, GRANTED, GRANTED, DONE] else f"{heard}"
+    wanted = [WELCOME, WELCOME, GRANTED, *([GRANTED, DONE] if reads else [DONE, GRANTED])]
+    return "" if heard == wanted and not is_early else f"{heard}, {is_early}"
 
 
-def opened_once_read(fifo: Path) -> int:
-    """A FIFO, opened for writing once somebody waits at it."""
-    files: list[int] = []
+def read_beside_a_sync(room: Path, serve: Path) -> str:
+    """`rughvadi-serve` answers reads while the sync of a commit is held."""
+    return commit_under_a_sync(room, (serve,), True)
 
-    def is_open() -> bool:
-        with contextlib.suppress(OSError):
-            files.append(os.open(fifo, os.O_WRONLY | os.O_NONBLOCK))
-        return bool(files)
 
-    if not wait_for(is_open, 60):
-        raise ValueError("nobody waits for a sync")
-    return files[0]
+def flood_beside_a_sync(room: Path, serve: Path) -> str:
+    """What comes while a sync is held is read up to some megabytes, and the rest once it ended."""
+    store, syncs = Store(room, (serve,), (), None), HeldSyncs(room)
+    server = Server(store.words(), env={**os.environ, **syncs.env})
+    unread = frame(ASK_READ, 0, server.floor, of_read(1, PAGES))
+    flood, sent = unread * (FLOOD // len(unread)), 0
+    try:
+        server.say(frame(HELLO, 0, server.floor), frame(ASK_READ, 0, server.floor, of_read(1, 0)))
+        heard = [server.hear()[0] for _ in range(2)]
+        syncs.begin()
+        server.say(frame(COMMIT, 0, server.floor, of_commit(1)))
+        syncs.wait()
+        os.set_blocking(server.process.stdin.fileno(), False)
+        while sent < len(flood) and select.select([], [server.process.stdin], [], 2)[1]:
+            sent += os.write(server.process.stdin.fileno(), flood[sent : sent + 65536])
+        syncs.end()
+        heard.append(server.hear()[0])
+        os.set_blocking(server.process.stdin.fileno(), True)
+        server.say(flood[sent:])
+        server.process.stdin.close()
+        ended = server.ended()
+    finally:
+        server.end()
+    passed = (0, [f"passed over {len(flood) // len(unread)}"])
+    right = heard == [WELCOME, GRANTED, DONE] and ended == passed and sent < FLOOD // 2
+    return "" if right else f"{heard}, {ended}, {sent} of {len(flood)} bytes"
+
+
+def answers_after_a_sync(room: Path, play: tuple) -> str:
+    """`cb_play serve` answers a commit once it is synced, and then goes on."""
+    return commit_under_a_sync(room, play, False)
 
 
 def older_tables(it: Store) -> str:
@@ -303,5 +326,8 @@ def tried(tries, room: Path, serve: Path, play: tuple) -> None:
         for name, (words, cluster, scenes) in engines.items():
             for scene in scenes:
                 tries.scene(f"lives, {name}", scene, Store(room, words, play, cluster))
-    (room / "beside").mkdir()
+    for folder in ("beside", "flood", "after"):
+        (room / folder).mkdir()
     tries.scene("SQLite", read_beside_a_sync, room / "beside", serve)
+    tries.scene("SQLite", flood_beside_a_sync, room / "flood", serve)
+    tries.scene("cb_play", answers_after_a_sync, room / "after", play)
