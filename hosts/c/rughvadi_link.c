@@ -164,15 +164,17 @@ static uint32_t receive_all(rughvadi_link *link, moment until) {
   return ready < 0 ? noted(link, RUGHVADI_LINK_SYSTEM) : RUGHVADI_DONE;
 }
 
+/* Sends what was said and takes what came, where a call before was refused memory for that. */
+static uint32_t take_left(rughvadi_link *link) {
+  uint32_t fault = send_said(link);
+  return fault == RUGHVADI_DONE ? take_frames(link) : fault;
+}
+
 uint32_t rughvadi_link_serve(rughvadi_link *link, int wait_ms) {
   if (link->gone) {
     return RUGHVADI_LINK_CLOSED;
   }
-  uint32_t fault = send_said(link);
-  if (fault == RUGHVADI_DONE) {
-    /* What a growth was refused for stays, and is taken now. */
-    fault = take_frames(link);
-  }
+  uint32_t fault = take_left(link);
   return fault != RUGHVADI_DONE ? fault : receive_all(link, in_ms(wait_ms));
 }
 
@@ -189,21 +191,20 @@ static uint32_t receive_until(rughvadi_link *link, moment until, bool *came) {
 
 /* Waits while the client has that status, and says again what may be lost. */
 static uint32_t wait_while(rughvadi_link *link, uint32_t status) {
-  for (int silent = 0; rughvadi_client_status(&link->client) == status;) {
+  int silent = 0;
+  uint32_t fault = take_left(link);
+  while (fault == RUGHVADI_DONE && rughvadi_client_status(&link->client) == status) {
     moment until = in_ms(link->wait_ms);
     bool came = false;
-    uint32_t fault = send_said(link);
+    fault = send_said(link);
     if (fault == RUGHVADI_DONE) {
       fault = receive_until(link, until, &came);
     }
     if (fault == RUGHVADI_DONE && !came) {
       fault = silent++ == link->tries ? RUGHVADI_LINK_SILENT : rughvadi_again(&link->client);
     }
-    if (fault != RUGHVADI_DONE) {
-      return fault;
-    }
   }
-  return RUGHVADI_DONE;
+  return fault;
 }
 
 /* A transaction that is gone was aborted, if that is how the last one ended. */
@@ -277,9 +278,10 @@ uint32_t rughvadi_link_begin(rughvadi_link *link) {
   return fault;
 }
 
-/* Whether an ask is out: of this call, or of an earlier one that no answer came to. */
+/* Whether an ask is out, of this call or of an earlier one that no answer came to; or an earlier
+ * call was refused memory, and left what is to be sent first. */
 static bool asks(uint32_t fault) {
-  return fault == RUGHVADI_DONE || fault == RUGHVADI_WAITING;
+  return fault == RUGHVADI_DONE || fault == RUGHVADI_WAITING || fault == RUGHVADI_UNFETCHED;
 }
 
 uint32_t rughvadi_link_fetch(rughvadi_link *link, uint32_t page, uint8_t *room, size_t len) {
@@ -348,7 +350,12 @@ uint32_t rughvadi_link_commit(rughvadi_link *link, uint64_t *number) {
     return RUGHVADI_LINK_CLOSED;
   }
   uint32_t fault = rughvadi_client_finish(&link->client);
-  if (fault == RUGHVADI_DONE) {
+  if (fault == RUGHVADI_UNFETCHED) {
+    fault = take_left(link);
+    fault = fault == RUGHVADI_DONE ? rughvadi_client_finish(&link->client) : fault;
+  }
+  /* An earlier call may have begun the commit, and have had no answer. */
+  if (fault == RUGHVADI_DONE || fault == RUGHVADI_COMMITTING) {
     fault = wait_while(link, RUGHVADI_STATUS_COMMITTING);
   }
   if (fault != RUGHVADI_DONE) {
@@ -381,8 +388,14 @@ uint32_t rughvadi_link_drop(rughvadi_link *link) {
     return RUGHVADI_LINK_CLOSED;
   }
   uint32_t fault = rughvadi_client_drop(&link->client);
+  if (fault == RUGHVADI_UNFETCHED) {
+    fault = take_left(link);
+    fault = fault == RUGHVADI_DONE ? rughvadi_client_drop(&link->client) : fault;
+  }
   if (fault == RUGHVADI_DONE) {
-    return link->is_silent ? keep_drop(link) : send_said(link);
+    fault = link->is_silent ? keep_drop(link) : send_said(link);
+    /* Where memory is refused the Drop waits. */
+    return fault == RUGHVADI_MEMORY ? RUGHVADI_DONE : fault;
   }
   return aborted_or(link, fault) == RUGHVADI_LINK_ABORTED ? RUGHVADI_DONE : fault;
 }

@@ -2,11 +2,12 @@
  * and no part of what is proved: read it, change it, or write one of your own.
  *
  * A link is used by one thread at a time, as a handle is. Each call returns RUGHVADI_DONE, a fault
- * of rughvadi.h, or one of the faults below. After RUGHVADI_LINK_SYSTEM, _CLOSED and
- * RUGHVADI_FRAME_.. the client is gone: each later call returns RUGHVADI_LINK_CLOSED, even for a
- * page that the client holds. The client is also gone if a call was left while a frame had been
- * sent in part, for example by a jump out of a signal's handler. Then close the link, and open
- * another one in the client's next incarnation.
+ * of rughvadi.h, or one of the faults below. After RUGHVADI_MEMORY and RUGHVADI_FRAME_MEMORY the
+ * same call may be made again. After RUGHVADI_LINK_SYSTEM, _CLOSED and each other RUGHVADI_FRAME_..
+ * the client is gone: each later call returns RUGHVADI_LINK_CLOSED, even for a page that the client
+ * holds. The client is also gone if a call was left while a frame had been sent in part, for
+ * example by a jump out of a signal's handler. Then close the link, and open another one in the
+ * client's next incarnation.
  *
  * A link that couldn't be opened is empty, as after rughvadi_link_close: it holds nothing, each
  * call returns RUGHVADI_LINK_CLOSED, and closing it does nothing.
@@ -70,7 +71,8 @@ uint32_t rughvadi_link_want(rughvadi_link *link, uint32_t page);
 /* Writes a page that the transaction has read, once it may write it. */
 uint32_t rughvadi_link_put(rughvadi_link *link, uint32_t page, const uint8_t *bytes, size_t len);
 
-/* Commits the transaction, and waits until it is on disk; *number is its number. */
+/* Commits the transaction, and waits until it is on disk; *number is its number. After
+ * RUGHVADI_LINK_SILENT it may be committed or not: call this again, which waits for the answer. */
 uint32_t rughvadi_link_commit(rughvadi_link *link, uint64_t *number);
 
 /* Ends the transaction without a commit. It may have been aborted before. If it read only pages

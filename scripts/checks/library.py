@@ -4,13 +4,13 @@
 
 It installs the library in a folder of its own, by `scripts/library`, and runs, each to its end:
 
-- the sweep of refused growths, from the first to the last
+- the sweeps of refused growths, from the first to the last: of calls, and of a link's
 - a million random calls, with damaged frames, by a program that is built with ASan and UBSan; after
   each that is refused all is as it was
 - a link in C: greetings that are answered and refused, signals, and that it is gone with its
   connection, and wherever the sending of a frame ends early; frames that go and come in pieces,
-  and bytes that are none; several addresses, and limits of time; the tries of a job, and Drops that
-  wait
+  and bytes that are none; aborts, silence, and pages that left a small pool; several addresses, and
+  limits of time; the tries of a job, and Drops that wait
 - a server and two clients in one process, over frames of which a tenth is lost, repeated or late,
   for so many seeds (10 if not said; an odd one keeps write permissions): each transaction checks
   a sum over all pages
@@ -49,9 +49,10 @@ SANITIZERS = ["-fsanitize=address,undefined", "-fno-sanitize-recover=all"]
 HOSTS = building.TOP / "hosts"
 # The programs in C that call the library in one process, with the name of each one's run.
 SOAKS = {
-    "refused_growths": "refused growths", "random_calls": "random calls",
-    "link": "links at their end", "sending": "sendings, whole and ended early",
-    "coming": "what comes to a link", "tries": "tries of a job", "drops": "drops that wait",
+    "refused_growths": "refused growths", "refused_links": "refused growths of a link",
+    "random_calls": "random calls", "link": "links at their end",
+    "sending": "sendings, whole and ended early", "coming": "what comes to a link",
+    "outcomes": "what calls of a link tell", "tries": "tries of a job", "drops": "drops that wait",
     "addresses": "several addresses",
 }
 EACH = 100

@@ -25,6 +25,10 @@ static int64_t clock_ns; /* what the clock shows */
 /* What the test does with a frame's next bytes, before the server gets them: how many go, or below
  * 0 with errno. NULL: all go. */
 static ssize_t (*on_send)(const uint8_t *bytes, size_t len, size_t before);
+/* What the link sends doesn't arrive. */
+static bool is_lost;
+/* What runs is the server, its disk or the other client. */
+static bool is_theirs;
 /* What a receipt comes to, with errno, in place of what came. NULL, or above 0: what came. */
 static ssize_t (*on_receive)(void);
 /* What happens as the link waits for something, so many nanoseconds. NULL: nothing. */
@@ -48,36 +52,39 @@ static void flush_all(void) {
   }
 }
 
-static void take_at(rughvadi_handle *taker, const uint8_t *bytes, size_t size) {
-  size_t used;
-  WANT(rughvadi_take(taker, bytes, size, &used));
-  HOLD(used == size);
+/* Fetches all that was said. What the server says to the link goes into its socket. */
+static size_t fetch_all(rughvadi_handle *from, uint8_t room[MOST]) {
+  size_t count = 0, size;
+  uint32_t client;
+  while (rughvadi_next(from, room + count, MOST - count, &size, &client) == RUGHVADI_DONE) {
+    if (from == &server && client == OURS) {
+      HOLD(write(theirs, room + count, size) == (ssize_t)size);
+    } else {
+      count += size;
+    }
+  }
+  HOLD(count <= MOST / 2);
+  return count;
 }
 
 /* Hands the server what the other client says, until neither has more to say to each other. */
 static void pass_other(void) {
   uint8_t room[MOST];
-  size_t size;
-  uint32_t client;
-  while (rughvadi_next(&other, room, sizeof room, &size, &client) == RUGHVADI_DONE) {
-    take_at(&server, room, size);
+  size_t count = fetch_all(&other, room), used;
+  for (size_t at = 0; at < count; at += used) {
+    WANT(rughvadi_take(&server, room + at, count - at, &used));
     deliver();
     flush_all();
   }
 }
 
-/* Hands on what the server says: to the link by its socket. */
+/* Hands on what the server says: to the link by its socket, and then to the other client. */
 static void deliver(void) {
   uint8_t room[MOST];
-  size_t size;
-  uint32_t client;
-  while (rughvadi_next(&server, room, sizeof room, &size, &client) == RUGHVADI_DONE) {
-    if (client == OURS) {
-      HOLD(write(theirs, room, size) == (ssize_t)size);
-    } else {
-      take_at(&other, room, size);
-      pass_other();
-    }
+  size_t count = fetch_all(&server, room), used;
+  for (size_t at = 0; at < count; at += used) {
+    WANT(rughvadi_take(&other, room + at, count - at, &used));
+    pass_other();
   }
 }
 
@@ -88,6 +95,25 @@ static size_t sent_len;
 static size_t lengths[256]; /* of the last frame of each kind, and how many there were */
 static uint32_t counts[256];
 
+/* The server takes what was sent, once it is a frame. */
+static void serve_sent(void) {
+  rughvadi_frame_head head;
+  size_t used;
+  if (rughvadi_frame_read(&limits, sent, sent_len, &head) != RUGHVADI_DONE) {
+    return;
+  }
+  HOLD(head.length == sent_len);
+  sent_len = 0;
+  lengths[head.kind] = head.length;
+  counts[head.kind]++;
+  if (!is_lost) {
+    WANT(rughvadi_take(&server, sent, head.length, &used));
+    HOLD(used == head.length);
+    deliver();
+    flush_all();
+  }
+}
+
 ssize_t send(int socket, const void *bytes, size_t len, int flags) {
   (void)flags;
   HOLD(socket == ours && sent_len + len <= sizeof sent);
@@ -97,16 +123,9 @@ ssize_t send(int socket, const void *bytes, size_t len, int flags) {
   }
   memcpy(sent + sent_len, bytes, (size_t)goes);
   sent_len += (size_t)goes;
-  rughvadi_frame_head head;
-  if (rughvadi_frame_read(&limits, sent, sent_len, &head) == RUGHVADI_DONE) {
-    HOLD(head.length == sent_len);
-    sent_len = 0;
-    lengths[head.kind] = head.length;
-    counts[head.kind]++;
-    take_at(&server, sent, head.length);
-    deliver();
-    flush_all();
-  }
+  is_theirs = true;
+  serve_sent();
+  is_theirs = false;
   return goes;
 }
 
@@ -154,7 +173,7 @@ static void begin_inside(void) {
   on_send = NULL;
   on_receive = NULL;
   on_wait = NULL;
-  has_room = false;
+  has_room = is_lost = false;
   WANT(rughvadi_server_new(&limits, &server));
   WANT(rughvadi_client_new(&limits, OTHER, 1, &other));
   WANT(rughvadi_client_hello(&other));

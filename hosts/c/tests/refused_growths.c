@@ -1,36 +1,11 @@
 /* Each growth of a scene is refused in turn: the call answers that memory was, is made once more,
  * and all goes on as if nothing had been refused. At the end nothing is left of the heap. */
+#include "heap.h"
 #include "parties.h"
 
-/* ---- a heap that refuses its growth of one number ---- */
+static long growths, refuse_at;
 
-typedef struct {
-  bool ok;
-  void *at;
-} rattle_tried;
-
-static max_align_t nowhere;
-static long growths, refuse_at, blocks;
-
-rattle_tried rattle_alloc(size_t size, size_t align) {
-  void *at = ++growths == refuse_at ? NULL : malloc(size != 0 ? size : align);
-  if (at == NULL) {
-    return (rattle_tried){false, &nowhere};
-  }
-  blocks++;
-  return (rattle_tried){true, at};
-}
-
-rattle_tried rattle_realloc(void *old, size_t kept, size_t size, size_t align) {
-  (void)kept;
-  void *at = ++growths == refuse_at ? NULL : realloc(old, size != 0 ? size : align);
-  return at == NULL ? (rattle_tried){false, &nowhere} : (rattle_tried){true, at};
-}
-
-void rattle_dealloc(void *at) {
-  blocks--;
-  free(at);
-}
+static bool is_refused(void) { return ++growths == refuse_at; }
 
 /* ---- what the scene comes to, as a sum of all that was answered ---- */
 
