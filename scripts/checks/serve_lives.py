@@ -202,6 +202,18 @@ def below_what_waits(it: Store) -> str:
     return "" if heard == wanted and (status, said) == (0, []) else f"{heard}, {status}, {said}"
 
 
+def beside_what_waits(it: Store) -> str:
+    """While a Hello waits for its bound, other clients' frames are taken, and its own aren't."""
+    with it.served() as server:
+        server.say(frame(HELLO, 1, server.floor))
+        heard = [server.hear()[:2]]
+        server.say(frame(HELLO, 0, CLOCK), frame(ASK_READ, 1, server.floor, of_read(1, 1)),
+                   frame(ASK_READ, 0, CLOCK, of_read(1, 0)))
+        heard += [server.hear()[:2] for _ in range(3)]
+    right = heard == [(WELCOME, 1), (GRANTED, 1), (WELCOME, 0), (GRANTED, 0)]
+    return "" if right else f"{heard}"
+
+
 def in_turn(it: Store) -> str:
     """Both servers in turn over one file: each life begins above those of the other."""
     floors, kinds = [], [it.serve, it.play]
@@ -317,11 +329,11 @@ def tried(tries, room: Path, serve: Path, play: tuple) -> None:
     with contextlib.ExitStack() as stack:
         engines: dict[str, tuple] = {
             "cb_play": (play, None, [*OF_ALL, *OF_FILES]),
-            "SQLite": ((serve,), None, [*OF_ALL, *OF_FILES, fenced, in_turn]),
+            "SQLite": ((serve,), None, [*OF_ALL, *OF_FILES, beside_what_waits, fenced, in_turn]),
         }
         if postgres.is_there():
             cluster = postgres.Cluster(room / "cluster").start()
-            engines["PostgreSQL"] = ((serve,), cluster, [*OF_ALL, fenced])
+            engines["PostgreSQL"] = ((serve,), cluster, [*OF_ALL, beside_what_waits, fenced])
             stack.callback(cluster.stop)
         for name, (words, cluster, scenes) in engines.items():
             for scene in scenes:

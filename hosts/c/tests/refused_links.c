@@ -1,8 +1,11 @@
 /* refused_links: each growth that a link's calls make in the library is refused in turn. A call
  * that tells of it is made once more, and all comes out as if nothing had been refused: the same
- * frames are sent, without a wait. At the end nothing is left of the heap. */
+ * frames are sent, without a wait. Or its transaction is dropped, and another one does the same. At
+ * the end nothing is left of the heap. */
 #include "heap.h"
 #include "inside.h"
+
+#include <setjmp.h>
 
 static rughvadi_link link_of_ours;
 static long growths, refuse_at, refusals;
@@ -12,36 +15,56 @@ static bool is_refused(void) {
   return is_in_call && !is_theirs && ++growths == refuse_at;
 }
 
+static bool gives_up;       /* the transaction, and not the call, is made once more, */
+static bool is_awaited;     /* unless the other client waits for it */
+static jmp_buf transaction; /* where it begins */
+
+static bool is_open(void) {
+  uint32_t status = rughvadi_client_status(&link_of_ours.client);
+  return status == RUGHVADI_STATUS_OPEN || status == RUGHVADI_STATUS_WAITING;
+}
+
 static uint32_t told(uint32_t fault) {
   is_in_call = false;
   return fault;
 }
 
-static bool is_of_memory(uint32_t fault) {
-  bool is = fault == RUGHVADI_MEMORY || fault == RUGHVADI_FRAME_MEMORY;
-  refusals += is;
-  return is;
+/* Whether the call was refused memory, and is to be made once more. */
+static bool was_refused(uint32_t fault) {
+  if (fault != RUGHVADI_MEMORY && fault != RUGHVADI_FRAME_MEMORY) {
+    WANT(fault);
+    return false;
+  }
+  refusals++;
+  if (gives_up && !is_awaited && is_open()) {
+    WANT(rughvadi_link_drop(&link_of_ours));
+    longjmp(transaction, 1);
+  }
+  return true;
 }
 
-/* The call is made, and once more where memory was refused. */
-#define TRY(call)                          \
-  do {                                     \
-    is_in_call = true;                     \
-    if (is_of_memory(told(call))) {        \
-      is_in_call = true;                   \
-      WANT(told(call));                    \
-    }                                      \
+#define TRY(call)                  \
+  do {                             \
+    is_in_call = true;             \
+    if (was_refused(told(call))) { \
+      is_in_call = true;           \
+      WANT(told(call));            \
+    }                              \
   } while (0)
 
 /* ---- a scene with each kind of frame ---- */
 
 static void write_page(uint8_t *page) {
+  uint8_t written[SIZE];
   uint64_t number = 0;
+  setjmp(transaction);
   TRY(rughvadi_link_begin(&link_of_ours));
-  TRY(rughvadi_link_fetch(&link_of_ours, 1, page, SIZE));
-  page[0]++;
-  TRY(rughvadi_link_put(&link_of_ours, 1, page, SIZE));
+  TRY(rughvadi_link_fetch(&link_of_ours, 1, written, SIZE));
+  HOLD(memcmp(written, page, SIZE) == 0);
+  written[0]++;
+  TRY(rughvadi_link_put(&link_of_ours, 1, written, SIZE));
   TRY(rughvadi_link_commit(&link_of_ours, &number));
+  memcpy(page, written, SIZE);
   HOLD(number == page[0]);
 }
 
@@ -62,8 +85,10 @@ static void hand_on(const uint8_t *page) {
 /* A transaction that has read the page that the other one wants to write. */
 static void use_page(void) {
   uint8_t page[SIZE];
+  setjmp(transaction);
   TRY(rughvadi_link_begin(&link_of_ours));
   TRY(rughvadi_link_fetch(&link_of_ours, 2, page, SIZE));
+  is_awaited = true;
   other_reads(2);
   other_wants(2);
   TRY(rughvadi_link_serve(&link_of_ours, 0));
@@ -72,6 +97,7 @@ static void use_page(void) {
   TRY(rughvadi_link_serve(&link_of_ours, 0));
   HOLD(rughvadi_client_may_write(&other, 2));
   other_drops();
+  is_awaited = false;
 }
 
 static void play(void) {
@@ -89,18 +115,27 @@ static void play(void) {
   HOLD(blocks == 0 && clock_ns == 0);
 }
 
-int main(void) {
-  play();
-  static uint32_t wanted[256];
-  memcpy(wanted, counts, sizeof wanted);
-  long all = growths, told_of = 0;
-  HOLD(all > 0 && refusals == 0);
+/* Refuses each of so many growths; how many were told of. */
+static long sweep(long all, const uint32_t *wanted) {
+  long told_of = 0;
   for (refuse_at = 1; refuse_at <= all; refuse_at++) {
     growths = refusals = 0;
     play();
-    HOLD(refusals <= 1 && memcmp(counts, wanted, sizeof wanted) == 0);
+    HOLD(refusals <= 1 && (gives_up || memcmp(counts, wanted, sizeof counts) == 0));
     told_of += refusals;
   }
+  return told_of;
+}
+
+int main(void) {
+  static uint32_t wanted[256];
+  play();
+  memcpy(wanted, counts, sizeof wanted);
+  long all = growths;
+  HOLD(all > 0 && refusals == 0);
+  long told_of = sweep(all, wanted);
+  gives_up = true;
+  HOLD(sweep(all, wanted) == told_of);
   printf("%ld growths of a link were refused in turn, and calls told of %ld\n", all, told_of);
   return 0;
 }
