@@ -345,18 +345,31 @@ uint32_t rughvadi_link_put(rughvadi_link *link, uint32_t page, const uint8_t *by
   return aborted_or(link, rughvadi_client_write(&link->client, page, bytes, len));
 }
 
-uint32_t rughvadi_link_commit(rughvadi_link *link, uint64_t *number) {
-  if (link->gone) {
-    return RUGHVADI_LINK_CLOSED;
-  }
+/* Begins a commit, unless an earlier call has, and had no answer. */
+static uint32_t begin_commit(rughvadi_link *link) {
   uint32_t fault = rughvadi_client_finish(&link->client);
   if (fault == RUGHVADI_UNFETCHED) {
     fault = take_left(link);
     fault = fault == RUGHVADI_DONE ? rughvadi_client_finish(&link->client) : fault;
   }
-  /* An earlier call may have begun the commit, and have had no answer. */
-  if (fault == RUGHVADI_DONE || fault == RUGHVADI_COMMITTING) {
-    fault = wait_while(link, RUGHVADI_STATUS_COMMITTING);
+  return fault == RUGHVADI_COMMITTING ? RUGHVADI_DONE : fault;
+}
+
+/* Waits until the commit has ended; what wants memory behind that is left to later calls. */
+static uint32_t wait_for_commit(rughvadi_link *link) {
+  uint32_t fault = wait_while(link, RUGHVADI_STATUS_COMMITTING);
+  bool is_of_memory = fault == RUGHVADI_MEMORY || fault == RUGHVADI_FRAME_MEMORY;
+  bool has_ended = rughvadi_client_status(&link->client) != RUGHVADI_STATUS_COMMITTING;
+  return is_of_memory && has_ended ? RUGHVADI_DONE : fault;
+}
+
+uint32_t rughvadi_link_commit(rughvadi_link *link, uint64_t *number) {
+  if (link->gone) {
+    return RUGHVADI_LINK_CLOSED;
+  }
+  uint32_t fault = begin_commit(link);
+  if (fault == RUGHVADI_DONE) {
+    fault = wait_for_commit(link);
   }
   if (fault != RUGHVADI_DONE) {
     return aborted_or(link, fault);

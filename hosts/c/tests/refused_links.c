@@ -16,8 +16,10 @@ static bool is_refused(void) {
 }
 
 static bool gives_up;       /* the transaction, and not the call, is made once more, */
-static bool is_awaited;     /* unless the other client waits for it */
+static bool is_awaited;     /* unless the other client waits for it; */
+static bool is_passed_over; /* or neither, since the next call does it, too */
 static jmp_buf transaction; /* where it begins */
+static uint64_t commits;
 
 static bool is_open(void) {
   uint32_t status = rughvadi_client_status(&link_of_ours.client);
@@ -36,6 +38,9 @@ static bool was_refused(uint32_t fault) {
     return false;
   }
   refusals++;
+  if (is_passed_over) {
+    return false;
+  }
   if (gives_up && !is_awaited && is_open()) {
     WANT(rughvadi_link_drop(&link_of_ours));
     longjmp(transaction, 1);
@@ -65,7 +70,7 @@ static void write_page(uint8_t *page) {
   TRY(rughvadi_link_put(&link_of_ours, 1, written, SIZE));
   TRY(rughvadi_link_commit(&link_of_ours, &number));
   memcpy(page, written, SIZE);
-  HOLD(number == page[0]);
+  HOLD(number == ++commits);
 }
 
 /* The other client reads the page that was written, and then wants to write it. */
@@ -82,18 +87,26 @@ static void hand_on(const uint8_t *page) {
   other_drops();
 }
 
-/* A transaction that has read the page that the other one wants to write. */
-static void use_page(void) {
+/* A transaction that has read the page that the other one wants to write, and how it ends. */
+static void use_page(bool is_committed) {
   uint8_t page[SIZE];
+  uint64_t number = 0;
   setjmp(transaction);
   TRY(rughvadi_link_begin(&link_of_ours));
   TRY(rughvadi_link_fetch(&link_of_ours, 2, page, SIZE));
   is_awaited = true;
   other_reads(2);
   other_wants(2);
+  is_passed_over = gives_up;
   TRY(rughvadi_link_serve(&link_of_ours, 0));
+  is_passed_over = false;
   HOLD(!rughvadi_client_may_write(&other, 2));
-  TRY(rughvadi_link_drop(&link_of_ours));
+  if (is_committed) {
+    TRY(rughvadi_link_commit(&link_of_ours, &number));
+    HOLD(number == ++commits);
+  } else {
+    TRY(rughvadi_link_drop(&link_of_ours));
+  }
   TRY(rughvadi_link_serve(&link_of_ours, 0));
   HOLD(rughvadi_client_may_write(&other, 2));
   other_drops();
@@ -102,6 +115,7 @@ static void use_page(void) {
 
 static void play(void) {
   uint8_t page[SIZE] = {0};
+  commits = 0;
   begin_inside();
   TRY(rughvadi_link_open(&link_of_ours, &limits, OURS, 1, ours));
   memset(counts, 0, sizeof counts);
@@ -109,7 +123,7 @@ static void play(void) {
     write_page(page);
     write_page(page);
     hand_on(page);
-    use_page();
+    use_page(times == 0);
   }
   end_inside(&link_of_ours);
   HOLD(blocks == 0 && clock_ns == 0);
