@@ -355,12 +355,11 @@ static uint32_t begin_commit(rughvadi_link *link) {
   return fault == RUGHVADI_COMMITTING ? RUGHVADI_DONE : fault;
 }
 
-/* Waits until the commit has ended; what wants memory behind that is left to later calls. */
+/* Waits until the commit has ended. Whatever fails behind that is told by later calls. */
 static uint32_t wait_for_commit(rughvadi_link *link) {
   uint32_t fault = wait_while(link, RUGHVADI_STATUS_COMMITTING);
-  bool is_of_memory = fault == RUGHVADI_MEMORY || fault == RUGHVADI_FRAME_MEMORY;
-  bool has_ended = rughvadi_client_status(&link->client) != RUGHVADI_STATUS_COMMITTING;
-  return is_of_memory && has_ended ? RUGHVADI_DONE : fault;
+  bool goes_on = rughvadi_client_status(&link->client) == RUGHVADI_STATUS_COMMITTING;
+  return goes_on ? fault : RUGHVADI_DONE;
 }
 
 uint32_t rughvadi_link_commit(rughvadi_link *link, uint64_t *number) {

@@ -157,6 +157,28 @@ static void commits_again(void) {
   end_well();
 }
 
+/* Nothing goes behind the commit itself. */
+static ssize_t end_behind_commit(const uint8_t *bytes, size_t len, size_t before) {
+  HOLD(before == 0 && len > 1);
+  errno = EPIPE;
+  return bytes[1] < RUGHVADI_KIND_DOWNGRADED ? (ssize_t)len : -1;
+}
+
+/* The other one waits for a page that the link writes. The link hears that its commit is done, and
+ * is to hand that page on, but its connection has ended. The commit is told, and the next call says
+ * that the link is gone. */
+static void commits_at_its_end(void) {
+  uint64_t number = 0;
+  open_with(&limits);
+  WANT(rughvadi_link_fetch(&link_of_ours, 1, page, SIZE));
+  WANT(put());
+  other_reads(1);
+  on_send = end_behind_commit;
+  WANT(rughvadi_link_commit(&link_of_ours, &number));
+  HOLD(number == 1 && rughvadi_link_begin(&link_of_ours) == RUGHVADI_LINK_CLOSED);
+  end_inside(&link_of_ours);
+}
+
 int main(void) {
   abort_in(want);
   abort_in(put);
@@ -167,6 +189,7 @@ int main(void) {
   fetches_again();
   asks_again();
   commits_again();
+  commits_at_its_end();
   puts("aborts, calls without a transaction, a page that left its pool, and silence");
   return 0;
 }
