@@ -162,5 +162,10 @@ class Link(Exchange):
             return True
 
         self._answer(finish)
-        self._wait_while(Status.COMMITTING)
+        try:
+            self._wait_while(Status.COMMITTING)
+        except Exception:
+            # Once it has ended, whatever fails behind that is raised by later calls.
+            if self.client.status is Status.COMMITTING:
+                raise
         return self._commit_number()

@@ -226,7 +226,12 @@ class Link(Exchange):
             return True
 
         await self._answer(finish)
-        await self._wait_while(Status.COMMITTING)
+        try:
+            await self._wait_while(Status.COMMITTING)
+        except Exception:
+            # Once it has ended, whatever fails behind that is raised by later calls.
+            if self.client.status is Status.COMMITTING:
+                raise
         return self._commit_number()
 
 

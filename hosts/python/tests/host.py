@@ -13,6 +13,7 @@ from typing import Callable, Optional
 from rughvadi import Client, FrameShort, Limits, Link, Server, read_frame
 
 ROOM = 1 << 20
+GIVE_BACK = 4
 
 
 class Host:
@@ -50,6 +51,15 @@ class Host:
             self.server.take(frame.data)
             self.deliver()
         self.flush()
+
+    def want_bare(self, client: int, page: int) -> None:
+        """A client without a socket reads a page, and wants to write it."""
+        other = self.bare_client(client)
+        other.begin()
+        other.read(page)
+        self.carry(client)
+        other.want(page)
+        self.carry(client)
 
     def pump(self) -> None:
         """Takes all whole frames that came, and writes what was committed."""
@@ -115,6 +125,17 @@ class Wire(socket.socket):
         sent = super().send(data, *flags)
         self.host.pump()
         return sent
+
+
+def until_given_back(send: Callable[[bytes], None]) -> Callable[[bytes], None]:
+    """Sends frames, up to the first that gives a page back: then the connection has ended."""
+
+    def send_next(data: bytes) -> None:
+        if data[1] == GIVE_BACK:
+            raise BrokenPipeError
+        send(data)
+
+    return send_next
 
 
 class Interrupted(BaseException):

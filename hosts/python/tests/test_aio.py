@@ -5,8 +5,9 @@ from __future__ import annotations
 import asyncio
 import unittest
 from typing import Callable
+from unittest import mock
 
-from host import Host
+from host import Host, until_given_back
 from rughvadi import Aborted, Closed, Ended, Limits, aio
 
 CLIENTS, EACH = 8, 10
@@ -62,6 +63,18 @@ class Loops(unittest.IsolatedAsyncioTestCase):
 
         await self.count_together(pages)
         self.assertEqual([self.number(page) for page in range(8)], [2 * EACH] * 8)
+
+    async def test_a_commit_that_has_ended_is_told_whatever_fails_behind_it(self) -> None:
+        link = await self.link(0)
+        with mock.patch.object(link, "_send", side_effect=until_given_back(link._send)):
+            async with link.transaction() as transaction:
+                was = [await transaction.read(page) for page in (1, 2)]
+                await transaction.write(1, bytes([7]) * len(was[0]))
+                self.host.want_bare(1, 2)
+            self.assertEqual((transaction.number, self.host.disk[1][1][0]), (1, 7))
+            with self.assertRaises(Closed):
+                async with link.transaction():
+                    pass
 
     async def test_tasks_share_a_link(self) -> None:
         link = await self.link(0)

@@ -5,8 +5,8 @@ from __future__ import annotations
 import unittest
 from unittest import mock
 
-from host import Host
-from rughvadi import Aborted, Limits, Link
+from host import Host, until_given_back
+from rughvadi import Aborted, Closed, Limits, Link
 from rughvadi._tries import FIRST, MOST, waits
 
 LIMITS = Limits(clients=2, pages=4, page_size=64, slots=4)
@@ -101,6 +101,14 @@ class Runs(unittest.TestCase):
         with mock.patch.object(self.link, "_serve_for", side_effect=lambda _wait: give_up()):
             self.link.run(job)
         self.assertEqual((len(tries), self.host.disk[1][1][0]), (2, 7))
+
+    def test_a_commit_that_has_ended_is_told_whatever_fails_behind_it(self) -> None:
+        with mock.patch.object(self.link, "_send", side_effect=until_given_back(self.link._send)):
+            with self.link.transaction() as transaction:
+                transaction[1] = bytes([7]) * len(transaction[2])
+                self.host.want_bare(1, 2)
+            self.assertEqual((transaction.number, self.host.disk[1][1][0]), (1, 7))
+            self.assertRaises(Closed, self.link.serve)
 
 
 if __name__ == "__main__":

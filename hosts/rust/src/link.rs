@@ -360,7 +360,11 @@ impl<S: Read + Write> Link<S> {
         if let Err(error) = self.client.finish() {
             return Err(self.aborted_or(error));
         }
-        self.wait_while(Status::Committing)?;
+        let waited = self.wait_while(Status::Committing);
+        if self.client.status() == Status::Committing {
+            waited?;
+        }
+        // Once it has ended, whatever fails behind that is told by later calls.
         match self.client.last() {
             Some(Ended::Committed(number)) => Ok(number),
             _ => Err(Error::Aborted),

@@ -21,6 +21,7 @@ enum How {
 /// The kinds of frame that a client says are numbered from 1 to this.
 const KINDS: usize = 8;
 const DROP: u8 = 7;
+const DOWNGRADED: u8 = 8;
 
 /// Where the sending ends, and what went before and behind it.
 #[derive(Default)]
@@ -142,6 +143,24 @@ fn a_link_is_gone_wherever_a_sending_ends() {
 fn a_link_is_gone_wherever_the_sending_of_a_drop_that_waited_ends() {
     let (_, lengths) = played(None, true);
     ends_behind_each_byte(DROP, lengths[DROP as usize], true);
+}
+
+#[test]
+fn a_commit_that_has_ended_is_told_whatever_fails_behind_it() {
+    let plan = Rc::new(RefCell::new(Plan {
+        ends: Some((DOWNGRADED, 0, How::Failure)),
+        ..Plan::default()
+    }));
+    let (wire, inside) = Wire::new(&plan);
+    let mut link = wire.opened().unwrap();
+    let mut transaction = link.transaction().unwrap();
+    let page = transaction.read(1).unwrap();
+    transaction.write(1, &page).unwrap();
+    // The other waits for the page, which the link hands on once its commit is done.
+    inside.borrow_mut().other_reads(1);
+    assert_eq!(transaction.commit().unwrap(), 1);
+    assert!(plan.borrow().ended);
+    assert!(is_closed(link.serve()));
 }
 
 fn ends_behind_each_byte(kind: u8, length: usize, waits: bool) {
