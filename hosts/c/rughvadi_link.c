@@ -194,14 +194,11 @@ static uint32_t wait_while(rughvadi_link *link, uint32_t status) {
   int silent = 0;
   uint32_t fault = take_left(link);
   while (fault == RUGHVADI_DONE && rughvadi_client_status(&link->client) == status) {
-    moment until = in_ms(link->wait_ms);
     bool came = false;
-    fault = send_said(link);
-    if (fault == RUGHVADI_DONE) {
-      fault = receive_until(link, until, &came);
-    }
+    fault = receive_until(link, in_ms(link->wait_ms), &came);
     if (fault == RUGHVADI_DONE && !came) {
       fault = silent++ == link->tries ? RUGHVADI_LINK_SILENT : rughvadi_again(&link->client);
+      fault = fault == RUGHVADI_DONE ? send_said(link) : fault;
     }
   }
   return fault;
