@@ -4,7 +4,10 @@
 #include "processes.h"
 
 #include <errno.h>
+#include <linux/sockios.h>
+#include <poll.h>
 #include <sched.h>
+#include <sys/ioctl.h>
 #include <sys/resource.h>
 
 static int ours, theirs;
@@ -70,7 +73,38 @@ static void greet(const uint8_t what[2], size_t count, uint32_t wanted) {
   ended(child);
 }
 
-/* Each number of an answer is where it belongs. */
+/* Waits until the other end has read what was sent. */
+static void wait_until_read(int socket) {
+  int left = 1;
+  while (left > 0) {
+    HOLD(ioctl(socket, SIOCOUTQ, &left) == 0);
+    sched_yield();
+  }
+}
+
+/* A connection ends before the greeting, or once it lies there and nobody has read it. */
+static void ends_early(bool is_greeted) {
+  uint8_t token[RUGHVADI_TOKEN] = {7};
+  rughvadi_seat seat = {0};
+  pid_t child = forked();
+  if (child == 0) {
+    struct pollfd greeting = {.fd = theirs, .events = POLLIN};
+    HOLD(!is_greeted || poll(&greeting, 1, -1) == 1);
+    exit(0);
+  }
+  close(theirs);
+  if (!is_greeted) {
+    ended_well(child);
+  }
+  HOLD(rughvadi_greet(ours, token, "main", &seat) == RUGHVADI_CONNECT_CLOSED);
+  HOLD(errno == (is_greeted ? ECONNRESET : EPIPE) && seat.incarnation == 0);
+  close(ours);
+  if (is_greeted) {
+    ended_well(child);
+  }
+}
+
+/* Each number of an answer is where it belongs, also where its bytes come one by one. */
 static void numbers(void) {
   uint8_t token[RUGHVADI_TOKEN], bytes[ANSWER] = {1, 0};
   rughvadi_seat seat = {0};
@@ -81,7 +115,10 @@ static void numbers(void) {
   pid_t child = forked();
   if (child == 0) {
     hear_greeting(theirs);
-    HOLD(send(theirs, bytes, ANSWER, MSG_NOSIGNAL) == ANSWER);
+    for (int place = 0; place < ANSWER; place++) {
+      HOLD(send(theirs, bytes + place, 1, MSG_NOSIGNAL) == 1);
+      wait_until_read(theirs);
+    }
     exit(0);
   }
   WANT(rughvadi_greet(ours, token, "main", &seat));
@@ -279,6 +316,8 @@ static void unopened(void) {
 
 int main(void) {
   greetings();
+  ends_early(false);
+  ends_early(true);
   numbers();
   tokens();
   unopened();
