@@ -164,7 +164,7 @@ static uint32_t receive_all(rughvadi_link *link, moment until) {
   return ready < 0 ? noted(link, RUGHVADI_LINK_SYSTEM) : RUGHVADI_DONE;
 }
 
-/* Sends what was said and takes what came, where a call before was refused memory for that. */
+/* Sends what was said, and takes what came and was left since memory was refused. */
 static uint32_t take_left(rughvadi_link *link) {
   uint32_t fault = send_said(link);
   return fault == RUGHVADI_DONE ? take_frames(link) : fault;
