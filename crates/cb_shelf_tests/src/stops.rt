@@ -113,8 +113,40 @@ impl Stops {
     }
 }
 
-/// What a session came to over copies of these files, of which one stops after so many calls, if it
-/// left what it may.
+/// What a look found in files, and a copy of these as they were before it.
+#[derive(Drop)]
+struct Look {
+    files: Files<Fuse<Memory>>,
+    found: SessionEnd,
+}
+
+/// Whether the disks of both have the same bytes.
+fn have_same_bytes(one: &Files<Fuse<Memory>>, other: &Files<Fuse<Memory>>) -> bool {
+    one.log.inner().bytes() == other.log.inner().bytes()
+        && one.db.inner().bytes() == other.db.inner().bytes()
+}
+
+/// Looks at the files that a crash left. Between two syncs each stop leaves the same bytes, in which
+/// the last look found what this one would.
+fn look_at(
+    alloc: Global,
+    limits: &Limits,
+    files: Files<Fuse<Memory>>,
+    last: Option<Look>,
+) -> Option<Look> {
+    match last {
+        Some(look) if have_same_bytes(&files, &look.files) => Some(look),
+        _ => {
+            let copies = copies_that_stop(alloc, &files, true, u64::MAX)?;
+            let session = session_of(limits, "", SessionTask::LoadAndLive);
+            let (found, _) = run_session(alloc, copies, session);
+            Some(Look { files, found })
+        }
+    }
+}
+
+/// What a session comes to over copies of these files, of which one stops after so many calls, and
+/// the files that it leaves after a crash.
 fn stopped(
     alloc: Global,
     limits: &Limits,
@@ -122,13 +154,10 @@ fn stopped(
     tables: Tables,
     is_log: bool,
     count: u64,
-) -> Option<SessionEnd> {
+) -> Option<(SessionEnd, Files<Fuse<Memory>>)> {
     let task = SessionTask::Serve(tables.first.wrapping_add(HELLO));
     let copies = copies_that_stop(alloc, files, is_log, count)?;
-    let (reached, copies) = run_session(alloc, copies, session_of(limits, "", task));
-    let look = session_of(limits, "", SessionTask::LoadAndLive);
-    let (left, _) = run_session(alloc, copies, look);
-    may_be_left(reached, left, tables).then_some(reached)
+    Some(run_session(alloc, copies, session_of(limits, "", task)))
 }
 
 /// The stops of sessions of which each is stopped by one call more, up to the one that isn't
@@ -141,12 +170,18 @@ fn count_stops(
     is_log: bool,
 ) -> Option<Stops> {
     let mut stops = Stops::default();
+    let mut last = None;
     for count in 0..1_000 {
-        let reached = stopped(alloc, limits, files, tables, is_log, count)?;
+        let (reached, left) = stopped(alloc, limits, files, tables, is_log, count)?;
+        let look = look_at(alloc, limits, left, last)?;
+        if !may_be_left(reached, look.found, tables) {
+            return None;
+        }
         if reached == SessionEnd::Served(tables.first, true) {
             return Some(stops);
         }
         stops.count(reached);
+        last = Some(look);
     }
     None
 }
@@ -164,6 +199,18 @@ fn survive_stops(alloc: Global, tables: Tables, is_log: bool) -> Result<bool, Fa
 #[test]
 fn log_stops_over_no_tables(rt: HostRuntime) -> Result<(), Fail> {
     assert!(rt; survive_stops(rt.alloc(), NO_TABLES, true)?);
+    Ok(())
+}
+
+#[test]
+fn file_stops_over_no_tables(rt: HostRuntime) -> Result<(), Fail> {
+    assert!(rt; survive_stops(rt.alloc(), NO_TABLES, false)?);
+    Ok(())
+}
+
+#[test]
+fn log_stops_beside_another_table(rt: HostRuntime) -> Result<(), Fail> {
+    assert!(rt; survive_stops(rt.alloc(), OTHER, true)?);
     Ok(())
 }
 

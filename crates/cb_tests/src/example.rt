@@ -1,7 +1,7 @@
 //! The example of the first page of `cb_office`.
 ghost use Rattle.std.specs.Prelude.{◌≡◌, false};
 
-use crate::running::disks::{NONE, both};
+use crate::running::disks::{NONE, once};
 use crate::running::work::{ShelfTask, WorkEnd, opening};
 use cb_office::{
     Chooser, ClientNo, CommitNo, Finished, FlushStop, Limits, Office, PageNo, Shelf, Station, TwoQ,
@@ -117,6 +117,6 @@ pub(crate) fn puts_the_page_there<R: Wait + Clock, S: Alter>(
 /// Over a new database, on which `Shelf::open` makes the shelf.
 #[test]
 fn example(rt: HostRuntime) {
-    let works = [opening(ShelfTask::Example), opening(ShelfTask::Nothing)];
-    assert!(rt; both(&rt, rt.alloc(), 1, NONE, works).0 == WorkEnd::Well(true));
+    let work = opening(ShelfTask::Example);
+    assert!(rt; once(&rt, rt.alloc(), 1, NONE, work) == WorkEnd::Well(true));
 }

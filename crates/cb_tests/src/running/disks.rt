@@ -2,8 +2,6 @@
 //!
 //! All connections are of one kind, since the library of the database is built once for each, and
 //! one function alone opens them.
-ghost use Rattle.std.specs.Prelude.{◌≡◌, false};
-
 use crate::running::balky::Balky;
 use crate::running::clocks::OwnClock;
 use crate::running::hurried::Hurried;
@@ -54,40 +52,25 @@ const SHORT: Options = Options {
     seed: 1,
 };
 
-/// Does this over a new connection to these files.
+/// Does this over a new connection to these files, with so many clients and two pages of sixteen
+/// bytes.
 fn over<R: Threads + Wait + Clock + Sync, D: Disk + Drop>(
     rt: &R,
     alloc: Global,
-    limits: &Limits,
+    clients: u16,
     files: Files<D>,
     work: Work<'_>,
-) -> (WorkEnd, Files<D>)
-    requires { limits.now.keep_write ≡ false }
-{
+) -> (WorkEnd, Files<D>) {
+    let Ok(limits) = Limits::new(u64::from(clients), 2, 16, 2, 1, 1) else {
+        return (WorkEnd::Nothing, files);
+    };
     match connect(alloc, files, SHORT) {
         Ok(conn) => {
-            let (end, conn) = work_on(rt, alloc, limits, conn, work);
+            let (end, conn) = work_on(rt, alloc, &limits, conn, work);
             (end, files_of(conn))
         }
         Err(files) => (WorkEnd::Nothing, files),
     }
-}
-
-/// Does both, with a crash between them.
-fn both_over<R: Threads + Wait + Clock + Sync, D: Crash + Drop>(
-    rt: &R,
-    alloc: Global,
-    limits: &Limits,
-    files: Files<D>,
-    works: [Work<'_>; 2],
-) -> (WorkEnd, WorkEnd)
-    requires { limits.now.keep_write ≡ false }
-{
-    let (reached, mut files) = over(rt, alloc, limits, files, works[0]);
-    files.log.crash();
-    files.db.crash();
-    let (left, _) = over(rt, alloc, limits, files, works[1]);
-    (reached, left)
 }
 
 /// New files, with these faults.
@@ -114,8 +97,25 @@ fn new_files<'a, R: Wait>(
     }
 }
 
-/// Does both over new disks, with so many clients and two pages of sixteen bytes, and a crash
-/// between them.
+/// The runtime of runs with these faults.
+fn hurried<'a, R>(rt: &'a R, faults: Faults<'a>) -> Hurried<'a, R> {
+    let room = if faults.frees { faults.left } else { None };
+    Hurried::new(rt, room, faults.clock)
+}
+
+/// Does this over new disks, with so many clients.
+pub(crate) fn once<R: Threads + Wait + Clock + Sync>(
+    rt: &R,
+    alloc: Global,
+    clients: u16,
+    faults: Faults<'_>,
+    work: Work<'_>,
+) -> WorkEnd {
+    let files = new_files(rt, alloc, faults);
+    over(&hurried(rt, faults), alloc, clients, files, work).0
+}
+
+/// Does both over new disks, with so many clients, and a crash between them.
 pub(crate) fn both<R: Threads + Wait + Clock + Sync>(
     rt: &R,
     alloc: Global,
@@ -123,11 +123,11 @@ pub(crate) fn both<R: Threads + Wait + Clock + Sync>(
     faults: Faults<'_>,
     works: [Work<'_>; 2],
 ) -> (WorkEnd, WorkEnd) {
-    let Ok(limits) = Limits::new(u64::from(clients), 2, 16, 2, 1, 1) else {
-        return (WorkEnd::Nothing, WorkEnd::Nothing);
-    };
-    let room = if faults.frees { faults.left } else { None };
-    let hurried = Hurried::new(rt, room, faults.clock);
+    let hurried = hurried(rt, faults);
     let files = new_files(rt, alloc, faults);
-    both_over(&hurried, alloc, &limits, files, works)
+    let (reached, mut files) = over(&hurried, alloc, clients, files, works[0]);
+    files.log.crash();
+    files.db.crash();
+    let (left, _) = over(&hurried, alloc, clients, files, works[1]);
+    (reached, left)
 }

@@ -64,6 +64,6 @@ fn counts_up<R: Threads + Wait + Clock + Sync>(
 /// The stored run of `cb_play` does the same over a file.
 #[test]
 fn counters(rt: HostRuntime) {
-    assert!(rt; counts_up(&rt, rt.alloc(), 4, 100));
+    assert!(rt; counts_up(&rt, rt.alloc(), 4, 40));
     assert!(rt; counts_up(&rt, rt.alloc(), 1, 0));
 }

@@ -1,7 +1,7 @@
 //! For whom the flusher waits before it takes a batch: counted by batches, over a clock that stands
 //! still.
 use crate::running::clocks::OwnClock;
-use crate::running::disks::{Faults, NONE, both};
+use crate::running::disks::{Faults, NONE, once};
 use crate::running::run::Told;
 use crate::running::trials::Trial;
 use crate::running::visits::commit;
@@ -189,8 +189,7 @@ fn is_paced<R: Threads + Wait + Clock + Sync>(rt: &R, alloc: Global) -> bool {
         ..NONE
     };
     let paced = opening(ShelfTask::Try(Trial::Paced(&clock)));
-    let works = [paced, opening(ShelfTask::Nothing)];
-    both(rt, alloc, 2, faults, works).0 == WorkEnd::Well(true)
+    once(rt, alloc, 2, faults, paced) == WorkEnd::Well(true)
 }
 
 #[test]

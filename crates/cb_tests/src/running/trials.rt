@@ -5,7 +5,7 @@ use crate::office::case::is_worked_through;
 use crate::office::limits::works_at_the_greatest;
 use crate::running::alone::commits_and_leaves;
 use crate::running::clocks::OwnClock;
-use crate::running::disks::{NONE, both};
+use crate::running::disks::{NONE, once};
 use crate::running::flags::{Flags, Moment, follows, wakes};
 use crate::running::gates::Counts;
 use crate::running::giving_up::drops_and_gives_up;
@@ -173,6 +173,6 @@ pub(crate) fn goes_well<R: Wait + Threads + Clock + Sync>(
     rt: &R,
     alloc: Global,
 ) -> bool {
-    let works = [opening(ShelfTask::Try(trial)), opening(ShelfTask::Nothing)];
-    both(rt, alloc, 4, NONE, works).0 == WorkEnd::Well(true)
+    let work = opening(ShelfTask::Try(trial));
+    once(rt, alloc, 4, NONE, work) == WorkEnd::Well(true)
 }

@@ -24,7 +24,6 @@ pub(crate) struct Work<'a> {
 /// What is done to a shelf that was opened.
 #[derive(Clone, Copy)]
 pub(crate) enum ShelfTask<'a> {
-    Nothing,
     /// It holds what the first commits of a run left, at least those that were answered as done.
     Begin(&'a Counts),
     /// This is tried over it and an office.
@@ -87,7 +86,6 @@ fn done<R: Threads + Wait + Clock + Sync, S: Alter>(
     requires shelf { shelf.old.limits ≡ limits.now }
 {
     match task {
-        ShelfTask::Nothing => WorkEnd::Well(true),
         ShelfTask::Begin(counts) => is_beginning(alloc, limits, shelf, counts),
         ShelfTask::Try(trial) => comes_over(trial, rt, alloc, limits, shelf),
         ShelfTask::Example => {
