@@ -126,8 +126,8 @@ fn have_same_bytes(one: &Files<Fuse<Memory>>, other: &Files<Fuse<Memory>>) -> bo
         && one.db.inner().bytes() == other.db.inner().bytes()
 }
 
-/// Looks at the files that a crash left. Between two syncs each stop leaves the same bytes, in which
-/// the last look found what this one would.
+/// Looks at the files that a crash left. Between two syncs each stop leaves the same bytes, in
+/// which the last look found what this one would.
 fn look_at(
     alloc: Global,
     limits: &Limits,
