@@ -40,7 +40,7 @@ size_t part_size(const rughvadi_limits *limits, size_t from) {
 
 /* ---- opening ---- */
 
-/* Whether what is written goes to a log, which is synced with each commit. */
+/* Has what is written go to a log, which is synced with each commit. What is no file has none. */
 static enum fault set_modes(struct sqlite *store) {
   sqlite3_stmt *mode;
   enum fault fault = sqlite_prepare(store, "PRAGMA journal_mode = WAL", &mode);
@@ -67,9 +67,6 @@ static enum fault sqlite_open(const struct settings *settings, struct engine **e
   store->engine.calls = &sqlite_calls;
   store->limits = settings->limits;
   *engine = &store->engine;
-  if (*settings->database == 0 || strcmp(settings->database, ":memory:") == 0) {
-    return FAULT_STORE; /* it would be no file */
-  }
   int code = sqlite3_open_v2(settings->database, &store->database, flags, NULL);
   if (code != SQLITE_OK) {
     return sqlite_fault(store, code);

@@ -95,10 +95,11 @@ def told(task: Task, came: trials.Came, tally: Tally) -> None:
     tally.refused += len(came.refused)
     for edit, goal in came.refused.items():
         print(f"{task.crate} {edit.name}: refused, {goal[:200]}", flush=True)
-    for edit, error in came.bad.items():
-        tally.wrong.append(f"{edit.name}: it doesn't reach the prover: {error[:200]}")
-    for edit in came.proved:
-        tally.wrong.append(f"{edit.name}: {'its run passes' if edit.is_tested else 'it is PROVED'}")
+    wrong = {it: f"it doesn't reach the prover: {error[:200]}" for it, error in came.bad.items()}
+    wrong |= {it: "its run passes" if it.is_tested else "it is PROVED" for it in came.proved}
+    for edit, why in wrong.items():
+        tally.wrong.append(f"{edit.name}: {why}")
+        print(f"survivor: {task.crate} {edit.name}: {why}", flush=True)
 
 
 def try_all(prover: Prover, wanted: dict[str, list[Edit]], most: int) -> dict[str, Tally]:

@@ -281,6 +281,15 @@ def stores_that_refuse(it: Scene) -> bool:
     return all(right)
 
 
+def stores_that_are_no_file(it: Scene) -> bool:
+    """What the library of SQLite would keep in memory, or in a file that goes as it is closed."""
+    given, right = it.given(1), []
+    for name in (":memory:", ""):
+        done = ran(*it.words()[:-1], name, input=given, cwd=it.room, timeout=120)
+        right.append((done.returncode, done.stdout, done.stderr) == (3, b"", b"store: Store\n"))
+    return all(right)
+
+
 @contextlib.contextmanager
 def prepared(scene: Scene, name: str) -> Iterator[None]:
     """A store that is refused while the body runs."""
@@ -478,9 +487,8 @@ def limits_of_memory(it: Scene) -> bool:
 
 SCENES = [
     whole_input, closed_file, byte_by_byte, damaged_frames, strangers, no_header, cut_input,
-    says_again, kept_writes, wrong_configs, stores_that_refuse, full_disk, closed_outputs,
-    reader_goes, unreadable_input,
-    refused_growths, limits_of_memory,
+    says_again, kept_writes, wrong_configs, stores_that_refuse, stores_that_are_no_file, full_disk,
+    closed_outputs, reader_goes, unreadable_input, refused_growths, limits_of_memory,
 ]
 
 

@@ -187,18 +187,19 @@ def fenced(it: Store) -> str:
 
 
 def below_what_waits(it: Store) -> str:
-    """Frames behind a Hello that waits for its bound keep their order, and none is lost."""
-    clock = CLOCK
+    """Frames behind a Hello that waits for its bound keep their order, and none is lost; and so
+    again, as the bound is raised once more."""
+    heard, wanted = [], []
     with it.served() as server:
-        asks = [frame(HELLO, client, clock + (client << 30)) for client in range(CLIENTS)]
-        reads = [frame(ASK_READ, client, clock + (client << 30), of_read(1, client))
-                 for client in range(CLIENTS)]
-        server.say(*asks, *reads)
-        heard = [server.hear() for _ in range(2 * CLIENTS)]
+        for clock in (CLOCK, 2 * CLOCK):
+            at = [(client, clock + (client << 30)) for client in range(CLIENTS)]
+            asks = [frame(HELLO, *each) for each in at]
+            reads = [frame(ASK_READ, *each, of_read(1, each[0])) for each in at]
+            server.say(*asks, *reads)
+            heard += [server.hear() for _ in range(2 * CLIENTS)]
+            wanted += [(kind, *each) for kind in (WELCOME, GRANTED) for each in at]
         server.process.stdin.close()
         status, said = server.ended()
-    wanted = [(kind, client, clock + (client << 30))
-              for kind in (WELCOME, GRANTED) for client in range(CLIENTS)]
     return "" if heard == wanted and (status, said) == (0, []) else f"{heard}, {status}, {said}"
 
 
@@ -255,6 +256,26 @@ def commit_under_a_sync(room: Path, words: tuple, reads: bool) -> str:
 def read_beside_a_sync(room: Path, serve: Path) -> str:
     """`rughvadi-serve` answers reads while the sync of a commit is held."""
     return commit_under_a_sync(room, (serve,), True)
+
+
+def end_beside_a_sync(room: Path, serve: Path) -> str:
+    """Once nobody reads its output it ends at its next answer, though the sync of a commit is
+    held."""
+    store, syncs = Store(room, (serve,), (), None), HeldSyncs(room)
+    server = Server(store.words(), env={**os.environ, **syncs.env})
+    try:
+        server.say(frame(HELLO, 0, server.floor), frame(ASK_READ, 0, server.floor, of_read(1, 0)))
+        heard = [server.hear()[0] for _ in range(2)]
+        syncs.begin()
+        server.say(frame(COMMIT, 0, server.floor, of_commit(1)))
+        syncs.wait()
+        server.process.stdout.close()
+        server.say(frame(HELLO, 1, server.floor))
+        ended = server.ended()
+        syncs.end()
+    finally:
+        server.end()
+    return "" if heard == [WELCOME, GRANTED] and ended == (5, []) else f"{heard}, {ended}"
 
 
 def flood_beside_a_sync(room: Path, serve: Path) -> str:
@@ -338,8 +359,9 @@ def tried(tries, room: Path, serve: Path, play: tuple) -> None:
         for name, (words, cluster, scenes) in engines.items():
             for scene in scenes:
                 tries.scene(f"lives, {name}", scene, Store(room, words, play, cluster))
-    for folder in ("beside", "flood", "after"):
+    for folder in ("beside", "end", "flood", "after"):
         (room / folder).mkdir()
     tries.scene("SQLite", read_beside_a_sync, room / "beside", serve)
+    tries.scene("SQLite", end_beside_a_sync, room / "end", serve)
     tries.scene("SQLite", flood_beside_a_sync, room / "flood", serve)
     tries.scene("cb_play", answers_after_a_sync, room / "after", play)
