@@ -8,6 +8,8 @@
   what was answered as done.
 - Streams of frames at both, and at `rughvadi-serve` over PostgreSQL: each puts out the same bytes,
   ends alike and leaves the same store, which those with a file go on with in turn.
+- Files that were there before, whole ones and wrong ones: both servers with a file take and refuse
+  the same, and leave the same rows.
 - Lives at `rughvadi-serve`: killed at drawn moments, each begins above all that was welcome before,
   and who serves in a former life answers nothing.
 - Bad input at the gateway, which is built with ASan and UBSan: no token, a wrong one, frames of
@@ -52,8 +54,8 @@ import sys
 from pathlib import Path
 
 import building
-from checks import bad_input, serve_engines, serve_gateway, serve_host, serve_input, serve_lives
-from checks import serve_operators
+from checks import bad_input, serve_engines, serve_found, serve_gateway, serve_host, serve_input
+from checks import serve_lives, serve_operators
 from checks.built import Built
 from checks.killing import Workers, kill_often
 from checks.trying import Tries, file_faults, numbers, ran, rows_of
@@ -393,6 +395,7 @@ def main(words: list[str]) -> int:
         serve_input.tried(tries, room / "input_play", "serve", (it.play, "serve"))
         serve_input.tried(tries, room / "input_sqlite", "over SQLite", (it.serve,))
         serve_engines.tried(tries, room / "engines", it.play, it.checked_serve)
+        serve_found.tried(tries, room / "found", it.play, it.checked_serve)
         serve_lives.tried(tries, room / "lives", it.checked_serve, (it.play, "serve"))
         bad_input.tried(tries, it)
         serve_gateway.tried(tries, it)

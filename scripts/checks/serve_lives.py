@@ -12,6 +12,7 @@ import random
 import select
 import signal
 import subprocess
+import time
 from pathlib import Path
 from typing import Iterator
 
@@ -215,6 +216,22 @@ def beside_what_waits(it: Store) -> str:
     return "" if right else f"{heard}"
 
 
+def processor_seconds(of: int) -> float:
+    """What a process has taken so far."""
+    fields = Path(f"/proc/{of}/stat").read_text().rpartition(")")[2].split()
+    return sum(map(int, fields[11:13])) / os.sysconf("SC_CLK_TCK")
+
+
+def idle(it: Store) -> str:
+    """While nobody says anything, it takes no time of a processor."""
+    with it.served() as server:
+        server.say(frame(HELLO, 0, server.floor))
+        heard, before = server.hear()[0], processor_seconds(server.process.pid)
+        time.sleep(1)
+        taken = processor_seconds(server.process.pid) - before
+    return "" if heard == WELCOME and taken <= 0.1 else f"{heard}, {taken} s"
+
+
 def in_turn(it: Store) -> str:
     """Both servers in turn over one file: each life begins above those of the other."""
     floors, kinds = [], [it.serve, it.play]
@@ -340,7 +357,7 @@ def wrong_rows(it: Store) -> str:
     return ""
 
 
-OF_ALL = [announced, rising, strangers_of_lives, below_what_waits]
+OF_ALL = [announced, rising, strangers_of_lives, below_what_waits, idle]
 OF_FILES = [older_tables, wrong_rows]
 
 
