@@ -65,17 +65,16 @@ struct config {
   char unknown[MOST_KEY]; /* the first in the order of bytes; empty: none is */
 };
 
-static size_t blanks(const char *text) { return strspn(text, " \t\r"); }
+static size_t blanks(const char *text) { return strspn(text, " \t"); }
 
-/* Reads decimal digits without zeros in front; how many, or 0. A number that is too great becomes
- * the greatest. */
+/* Reads decimal digits of a number of 63 bits, without zeros in front; how many, or 0. */
 static size_t number_read(const char *text, uint64_t *number) {
   size_t size = strspn(text, "0123456789");
   if (size > 1 && *text == '0') {
     return 0;
   }
   *number = strtoull(text, NULL, 10);
-  return size;
+  return *number <= INT64_MAX ? size : 0;
 }
 
 /* Takes the number of a key; false where it was there before. */
@@ -122,6 +121,46 @@ static bool take_line(struct config *config, const char *line) {
   return size > 0 && (*line == 0 || *line == '#') && take_number(config, name, number);
 }
 
+/* Reads a code point in UTF-8, in the one form that it has; how many bytes those are, or 0. */
+static size_t code_point_read(const unsigned char *at, uint32_t *point) {
+  static const uint32_t least[] = {0, 0x80, 0x800, 0x10000};
+  size_t more = *at < 0xc0 ? 0 : *at < 0xe0 ? 1 : *at < 0xf0 ? 2 : 3;
+  if ((*at >= 0x80 && *at < 0xc0) || *at >= 0xf8) {
+    return 0;
+  }
+  *point = more == 0 ? *at : *at & (0x3fU >> more);
+  for (size_t place = 1; place <= more; place++) {
+    if ((at[place] & 0xc0) != 0x80) {
+      return 0;
+    }
+    *point = *point << 6 | (at[place] & 0x3fU);
+  }
+  bool is_one = *point >= least[more] && *point <= 0x10ffff && (*point < 0xd800 || *point > 0xdfff);
+  return is_one ? more + 1 : 0;
+}
+
+/* Whether a line is text of TOML: UTF-8 without control characters but tabs. */
+static bool is_text(const char *line) {
+  const unsigned char *at = (const unsigned char *)line;
+  while (*at != 0) {
+    uint32_t point = 0;
+    size_t size = code_point_read(at, &point);
+    if (size == 0 || (point < ' ' && point != '\t') || point == 0x7f) {
+      return false;
+    }
+    at += size;
+  }
+  return true;
+}
+
+/* How many bytes a line has without its end. */
+static size_t without_end(const char *line, size_t size) {
+  if (size == 0 || line[size - 1] != '\n') {
+    return size;
+  }
+  return size - (size > 1 && line[size - 2] == '\r' ? 2 : 1);
+}
+
 /* Takes all lines; 0 or a status, which is said. */
 static int take_lines(struct config *config, FILE *file) {
   char *line = NULL;
@@ -130,10 +169,9 @@ static int take_lines(struct config *config, FILE *file) {
   ssize_t size;
   errno = 0;
   while (is_right && (size = getline(&line, &room, file)) >= 0) {
-    size_t end = (size_t)size;
-    end -= end > 0 && line[end - 1] == '\n';
+    size_t end = without_end(line, (size_t)size);
     line[end] = 0;
-    is_right = strlen(line) == end && take_line(config, line);
+    is_right = strlen(line) == end && is_text(line) && take_line(config, line);
   }
   bool is_refused = line == NULL || errno == ENOMEM;
   free(line);

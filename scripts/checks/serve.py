@@ -8,6 +8,7 @@
   what was answered as done.
 - Streams of frames at both, and at `rughvadi-serve` over PostgreSQL: each puts out the same bytes,
   ends alike and leaves the same store, which those with a file go on with in turn.
+- Configurations: both servers take and refuse the same, but for TOML of other forms.
 - Files that were there before, whole ones and wrong ones: both servers with a file take and refuse
   the same, and leave the same rows.
 - Lives at `rughvadi-serve`: killed at drawn moments, each begins above all that was welcome before,
@@ -54,8 +55,8 @@ import sys
 from pathlib import Path
 
 import building
-from checks import bad_input, serve_engines, serve_found, serve_gateway, serve_host, serve_input
-from checks import serve_lives, serve_operators
+from checks import bad_input, serve_configs, serve_engines, serve_found, serve_gateway, serve_host
+from checks import serve_input, serve_lives, serve_operators
 from checks.built import Built
 from checks.killing import Workers, kill_often
 from checks.trying import Tries, file_faults, numbers, ran, rows_of
@@ -395,6 +396,7 @@ def main(words: list[str]) -> int:
         serve_input.tried(tries, room / "input_play", "serve", (it.play, "serve"))
         serve_input.tried(tries, room / "input_sqlite", "over SQLite", (it.serve,))
         serve_engines.tried(tries, room / "engines", it.play, it.checked_serve)
+        serve_configs.tried(tries, room / "configs", it.play, it.checked_serve)
         serve_found.tried(tries, room / "found", it.play, it.checked_serve)
         serve_lives.tried(tries, room / "lives", it.checked_serve, (it.play, "serve"))
         bad_input.tried(tries, it)

@@ -87,9 +87,12 @@ WRONG_OLDER = {
     "a table missing": "DROP TABLE page",
     "a newer table beside them": "CREATE TABLE page2(no INTEGER PRIMARY KEY, version)",
 }
+LOOSE = (OLDER + OLDER_ROWS).replace("STRICT", "")
 WRONG = {
     **{f"newer, {name}": NEWER + NEWER_ROWS + text for name, text in WRONG_NEWER.items()},
     **{f"older, {name}": OLDER + OLDER_ROWS + text for name, text in WRONG_OLDER.items()},
+    "older, a text as a version": f"{LOOSE}UPDATE page SET version = 'x' WHERE no = 1",
+    "older, a text as a body": f"{LOOSE}UPDATE page SET body = '{SIZE * 'x'}' WHERE no = 1",
 }
 PART = 4096  # bytes of a part; the page of an older table is one
 

@@ -1,0 +1,124 @@
+"""Configurations, for `scripts/check serve`: `cb_play serve` and `rughvadi-serve` take and refuse
+the same, by the same lines; but of TOML that is no `KEY = NUMBER` the second says `config: text`.
+"""
+from __future__ import annotations
+
+import itertools
+import subprocess
+import tempfile
+from pathlib import Path
+
+from checks.trying import ran
+
+LEAST = {"clients": 1, "pages": 1, "page_size": 16, "slots": 2}
+# The greatest of each key, where the greatest slots leave kin room.
+RANGES = {
+    "clients": (1, 32), "pages": (1, 4096), "page_size": (16, 65536), "slots": (2, 1024),
+    "kin": (1, 3), "kout": (1, 4096), "jobs": (0, 100000), "keep_write": (0, 1), "lives": (0, 1),
+}
+USUAL = {"clients": 3, "pages": 4, "page_size": 64, "slots": 4}
+MOST = (1 << 62) - 1  # the greatest whole number
+
+
+def text_of(numbers: dict[str, object]) -> str:
+    return "".join(f"{key} = {number}\n" for key, number in numbers.items())
+
+
+def with_numbers(**numbers: object) -> str:
+    return text_of({**USUAL, **numbers})
+
+
+def spelled() -> list[str]:
+    """The usual one in other words."""
+    lines = text_of(USUAL).splitlines()
+    return [
+        "\n".join(lines), "\n\n".join(lines) + "\n\n", "\r\n".join([*lines, ""]),
+        "\n".join(reversed(lines)), "\n".join(f"\t {line}\t " for line in lines),
+        "\n".join(line.replace(" ", "") for line in lines), "\n".join(f"{it} # 5" for it in lines),
+        "# clients = 5\n \t\n" + "\n".join(f"{it}# {it}" for it in lines) + "\n#",
+        "# \t \xc3\xa4 \xe2\x82\xac \xf0\x9f\x92\xbe\n\r\n" + text_of(USUAL),
+    ]
+
+
+def at_bounds() -> list[str]:
+    """Each key at its bounds and one step outside, at the greatest numbers, and gone."""
+    found = [text_of(LEAST)]
+    for key, (least, most) in RANGES.items():
+        step = 16 if key == "page_size" else 1
+        for number in (least, most, most + step, least - step, MOST, MOST + 1, (1 << 63) - 1):
+            if number >= 0:
+                found.append(with_numbers(**{key: number}))
+    found += [text_of({key: USUAL[key] for key in USUAL if key != gone}) for gone in USUAL]
+    return [*found, with_numbers(page_size=24), "", text_of({"kin": 1})]
+
+
+def wrong_twice() -> list[str]:
+    """Two things that are wrong, of which one is said."""
+    wrong = {"clients": 0, "pages": 4097, "page_size": 17, "slots": 1, "kin": 0, "kout": 0,
+             "jobs": 100001, "keep_write": 2, "lives": 2}
+    pairs = itertools.combinations(wrong, 2)
+    found = [with_numbers(**{key: wrong[key] for key in pair}) for pair in pairs]
+    found += [with_numbers(slots=MOST + 1, kout=MOST + 1), with_numbers(clients=33, pages=MOST + 1)]
+    found += [with_numbers(z=1, b=1), with_numbers(z=1, b=1, clients=0), with_numbers(a_9=1, A=1)]
+    return [*found, text_of({"clients": 3, "x": 1}), text_of({"clients": MOST + 1})]
+
+
+def no_toml() -> list[str]:
+    """Texts that are no TOML, after what would be one, and before."""
+    wrong = ["clients = 3", "kin", "kin =", "= 1", "kin = 01", "kin = 1 1", "kin = 1x", "kin == 1",
+             "kin = 1,", "kin 1", "k n = 1", "kin = -", "kin = 1\0", "\0", "kin = \xb2", "?", "[",
+             f"kin = {1 << 63}", f"kin = {1 << 64}", f"kin = {10 ** 30}", "kin = 1\r", "\r\r", "\f",
+             "# \xff", "# \xc3", "# \xed\xa0\x80", "# \xf4\x90\x80\x80", "# \xc0\xaf", "# \x01",
+             "# \x7f", "kin = 1 # \x1b", "# 1\r2"]
+    texts = [text_of(USUAL) + it for it in wrong]
+    return [*texts, *(f"{it}\n{text_of(USUAL)}" for it in wrong), "clients = 3 pages = 4"]
+
+
+# What is TOML, and no KEY = NUMBER.
+OTHER = [
+    "kin = 1_0", "kin = 0x1", "kin = 0o1", "kin = 0b1", "kin = +1", "kin = -1", "kin = 1.0",
+    "kin = 1e0", "kin = true", "kin = '1'", "kin = [1]", "kin = {a = 1}", "'kin' = 1",
+    '"kin" = 1', "kin.a = 1", "[kin]", "[[kin]]", "kin = 2026-12-01", "kin = nan",
+]
+
+
+def answer(room: Path, words: tuple, text: str) -> tuple[int, bytes, bytes]:
+    """How a server ends with a configuration, to which nobody says anything."""
+    with tempfile.TemporaryDirectory(dir=room) as folder:
+        config = Path(folder) / "config"
+        config.write_bytes(text.encode("latin-1"))
+        done = ran(*words, config, Path(folder) / "store.db", stdin=subprocess.DEVNULL, timeout=120)
+        return done.returncode, done.stdout, done.stderr
+
+
+def differ(room: Path, play: Path, serve: Path, texts: list[str]) -> str:
+    """The first texts to which the two say other things."""
+    found = []
+    for text in texts:
+        one, other = answer(room, (play, "serve"), text), answer(room, (serve,), text)
+        if one != other:
+            found.append(f"{text!r}: {one}, {other}")
+    return "\n".join(found[:5])
+
+
+def taken_other(room: Path, play: Path, serve: Path) -> str:
+    """The first texts of other TOML that `cb_play serve` says to be none, or `rughvadi-serve`
+    doesn't."""
+    found = []
+    for it in OTHER:
+        one = answer(room, (play, "serve"), text_of(USUAL) + it)
+        other = answer(room, (serve,), text_of(USUAL) + it)
+        if one[2] == b"config: text\n" or other != (2, b"", b"config: text\n"):
+            found.append(f"{it!r}: {one}, {other}")
+    return "\n".join(found[:5])
+
+
+def tried(tries, room: Path, play: Path, serve: Path) -> None:
+    """Compares the two servers."""
+    room.mkdir(mode=0o755)
+    for make in (spelled, at_bounds, wrong_twice, no_toml):
+        texts = make()
+        why = differ(room, play, serve, texts)
+        tries.told(f"{len(texts)} configurations: {make.__name__.replace('_', ' ')}", not why, why)
+    why = taken_other(room, play, serve)
+    tries.told(f"{len(OTHER)} configurations: other TOML", not why, why)
