@@ -67,9 +67,9 @@ def no_toml() -> list[str]:
     """Texts that are no TOML, after what would be one, and before."""
     wrong = ["clients = 3", "kin", "kin =", "= 1", "kin = 01", "kin = 1 1", "kin = 1x", "kin == 1",
              "kin = 1,", "kin 1", "k n = 1", "kin = -", "kin = 1\0", "\0", "kin = \xb2", "?", "[",
-             f"kin = {1 << 63}", f"kin = {1 << 64}", f"kin = {10 ** 30}", "kin = 1\r", "\r\r", "\f",
-             "# \xff", "# \xc3", "# \xed\xa0\x80", "# \xf4\x90\x80\x80", "# \xc0\xaf", "# \x01",
-             "# \x7f", "kin = 1 # \x1b", "# 1\r2"]
+             "?a = 1", "\xc3\xa4 = 1", f"kin = {1 << 63}", f"kin = {1 << 64}", f"kin = {10 ** 30}",
+             "kin = 1\r", "\r\r", "\f", "# \xff", "# \xc3", "# \xed\xa0\x80", "# \xf4\x90\x80\x80",
+             "# \xc0\xaf", "# \x01", "# \x7f", "kin = 1 # \x1b", "# 1\r2"]
     texts = [text_of(USUAL) + it for it in wrong]
     return [*texts, *(f"{it}\n{text_of(USUAL)}" for it in wrong), "clients = 3 pages = 4"]
 
