@@ -20,6 +20,14 @@ USUAL = {"clients": 3, "pages": 4, "page_size": 64, "slots": 4}
 MOST = (1 << 62) - 1  # the greatest whole number
 
 
+# The first and last signs of 1 to 4 bytes in UTF-8, and around what is none.
+AT_BOUNDS = [" ", "~", "\xc2\x80", "\xdf\xbf", "\xe0\xa0\x80", "\xed\x9f\xbf", "\xee\x80\x80",
+             "\xef\xbf\xbf", "\xf0\x90\x80\x80", "\xf4\x8f\xbf\xbf"]
+OUTSIDE = ["\x01", "\x1f", "\x7f", "\x80", "\xbf", "\xc1\xbf", "\xc3", "\xc3\xc3",
+           "\xe0\x9f\xbf", "\xed\xa0\x80", "\xed\xbf\xbf", "\xf0\x8f\xbf\xbf",
+           "\xf4\x90\x80\x80", "\xf8\x80\x80\x80", "\xff", "1\r2"]
+
+
 def text_of(numbers: dict[str, object]) -> str:
     return "".join(f"{key} = {number}\n" for key, number in numbers.items())
 
@@ -36,7 +44,7 @@ def spelled() -> list[str]:
         "\n".join(reversed(lines)), "\n".join(f"\t {line}\t " for line in lines),
         "\n".join(line.replace(" ", "") for line in lines), "\n".join(f"{it} # 5" for it in lines),
         "# clients = 5\n \t\n" + "\n".join(f"{it}# {it}" for it in lines) + "\n#",
-        "# \t \xc3\xa4 \xe2\x82\xac \xf0\x9f\x92\xbe\n\r\n" + text_of(USUAL),
+        *(f"# \t{it}\n\r\n{text_of(USUAL)}" for it in AT_BOUNDS),
     ]
 
 
@@ -68,8 +76,7 @@ def no_toml() -> list[str]:
     wrong = ["clients = 3", "kin", "kin =", "= 1", "kin = 01", "kin = 1 1", "kin = 1x", "kin == 1",
              "kin = 1,", "kin 1", "k n = 1", "kin = -", "kin = 1\0", "\0", "kin = \xb2", "?", "[",
              "?a = 1", "\xc3\xa4 = 1", f"kin = {1 << 63}", f"kin = {1 << 64}", f"kin = {10 ** 30}",
-             "kin = 1\r", "\r\r", "\f", "# \xff", "# \xc3", "# \xed\xa0\x80", "# \xf4\x90\x80\x80",
-             "# \xc0\xaf", "# \x01", "# \x7f", "kin = 1 # \x1b", "# 1\r2"]
+             "kin = 1\r", "\r\r", "\f", *(f"kin = 1 # {it}" for it in OUTSIDE)]
     texts = [text_of(USUAL) + it for it in wrong]
     return [*texts, *(f"{it}\n{text_of(USUAL)}" for it in wrong), "clients = 3 pages = 4"]
 
@@ -82,13 +89,18 @@ OTHER = [
 ]
 
 
+def ended(words: tuple, config: Path, store: Path) -> tuple[int, bytes, bytes]:
+    """How a server ends to which nobody says anything."""
+    done = ran(*words, config, store, stdin=subprocess.DEVNULL, timeout=120)
+    return done.returncode, done.stdout, done.stderr
+
+
 def answer(room: Path, words: tuple, text: str) -> tuple[int, bytes, bytes]:
-    """How a server ends with a configuration, to which nobody says anything."""
+    """How it ends with this configuration, of which each sign is a byte."""
     with tempfile.TemporaryDirectory(dir=room) as folder:
         config = Path(folder) / "config"
         config.write_bytes(text.encode("latin-1"))
-        done = ran(*words, config, Path(folder) / "store.db", stdin=subprocess.DEVNULL, timeout=120)
-        return done.returncode, done.stdout, done.stderr
+        return ended(words, config, Path(folder) / "store.db")
 
 
 def differ(room: Path, play: Path, serve: Path, texts: list[str]) -> str:
@@ -113,6 +125,17 @@ def taken_other(room: Path, play: Path, serve: Path) -> str:
     return "\n".join(found[:5])
 
 
+def unreadable(room: Path, play: Path, serve: Path) -> str:
+    """What the two say of a folder, and of what isn't there."""
+    found = []
+    for config in (room, room / "missing"):
+        wanted = (2, b"", f"cannot read {config}\n".encode())
+        both = [ended(words, config, room / "store.db") for words in ((play, "serve"), (serve,))]
+        if both != [wanted, wanted]:
+            found.append(f"{config}: {both}")
+    return "\n".join(found)
+
+
 def tried(tries, room: Path, play: Path, serve: Path) -> None:
     """Compares the two servers."""
     room.mkdir(mode=0o755)
@@ -120,5 +143,7 @@ def tried(tries, room: Path, play: Path, serve: Path) -> None:
         texts = make()
         why = differ(room, play, serve, texts)
         tries.told(f"{len(texts)} configurations: {make.__name__.replace('_', ' ')}", not why, why)
+    why = unreadable(room, play, serve)
+    tries.told("configurations: unreadable", not why, why)
     why = taken_other(room, play, serve)
     tries.told(f"{len(OTHER)} configurations: other TOML", not why, why)
