@@ -67,7 +67,7 @@ struct config {
 
 static size_t blanks(const char *text) { return strspn(text, " \t"); }
 
-/* Reads decimal digits of a number of 63 bits, without zeros in front; how many, or 0. */
+/* Reads decimal digits of a number below 2^63, without zeros in front; how many, or 0. */
 static size_t number_read(const char *text, uint64_t *number) {
   size_t size = strspn(text, "0123456789");
   if (size > 1 && *text == '0') {

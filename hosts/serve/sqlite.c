@@ -40,7 +40,7 @@ size_t part_size(const rughvadi_limits *limits, size_t from) {
 
 /* ---- opening ---- */
 
-/* Has what is written go to a log, which is synced with each commit. What is no file has none. */
+/* Has writes go to a log, which each commit syncs. What isn't a file can't have one. */
 static enum fault set_modes(struct sqlite *store) {
   sqlite3_stmt *mode;
   enum fault fault = sqlite_prepare(store, "PRAGMA journal_mode = WAL", &mode);

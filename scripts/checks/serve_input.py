@@ -451,14 +451,14 @@ def growth_count(said: list[str]) -> int:
 
 
 def refused_growths(it: Scene) -> bool:
-    """Growths are refused in turn, some 400 of them: the server ends by it, or goes on. EVERY=1 in
-    the environment refuses each."""
+    """Growths are refused in turn, the first hundred and some 400 behind them: the server ends by
+    it, or goes on. EVERY=1 in the environment refuses each."""
     library = building.library_in_c("refuse", it.room, "-ldl")
     env = {**os.environ, "LD_PRELOAD": str(library), "REFUSED": "0"}
     growths = growth_count(it.serve(it.given(3), env=env).said)
     step = int(os.environ.get("EVERY", 1 + growths // 400))
     ended_how = set()
-    for refused in range(1, growths + 1, step):
+    for refused in [*range(1, 100), *range(100, growths + 1, step)]:
         scene = Scene(it.room, it.server)
         ended = scene.serve(scene.given(3), env={**env, "REFUSED": str(refused)})
         ended.said.pop()

@@ -53,6 +53,12 @@ void *realloc(void *old, size_t size) {
   return is_refused() ? NULL : real(old, size);
 }
 
+void *calloc(size_t count, size_t size) {
+  static void *(*real)(size_t, size_t);
+  if (!real) real = dlsym(RTLD_NEXT, "calloc");
+  return is_refused() ? NULL : real(count, size);
+}
+
 void *aligned_alloc(size_t alignment, size_t size) {
   static void *(*real)(size_t, size_t);
   if (!real) real = dlsym(RTLD_NEXT, "aligned_alloc");
