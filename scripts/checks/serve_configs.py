@@ -11,18 +11,20 @@ from pathlib import Path
 from checks.trying import ran
 
 LEAST = {"clients": 1, "pages": 1, "page_size": 16, "slots": 2}
-# The greatest of each key, where the greatest slots leave kin room.
+# The least and the greatest of each key; for kin with the usual slots.
 RANGES = {
     "clients": (1, 32), "pages": (1, 4096), "page_size": (16, 65536), "slots": (2, 1024),
     "kin": (1, 3), "kout": (1, 4096), "jobs": (0, 100000), "keep_write": (0, 1), "lives": (0, 1),
 }
 USUAL = {"clients": 3, "pages": 4, "page_size": 64, "slots": 4}
 MOST = (1 << 62) - 1  # the greatest whole number
-
-
-# The first and last signs of 1 to 4 bytes in UTF-8, and around what is none.
-AT_BOUNDS = [" ", "~", "\xc2\x80", "\xdf\xbf", "\xe0\xa0\x80", "\xed\x9f\xbf", "\xee\x80\x80",
-             "\xef\xbf\xbf", "\xf0\x90\x80\x80", "\xf4\x8f\xbf\xbf"]
+# What a server says of these, to which nobody says anything: its status, output and line.
+TAKEN, NO_TEXT = (0, b"", b""), (2, b"", b"config: text\n")
+# The first and last characters of 1 to 4 bytes in UTF-8, and bytes that a remark can't have.
+CHARACTERS = [
+    " ", "~", "\xc2\x80", "\xdf\xbf", "\xe0\xa0\x80", "\xed\x9f\xbf", "\xee\x80\x80",
+    "\xef\xbf\xbf", "\xf0\x90\x80\x80", "\xf4\x8f\xbf\xbf",
+]
 OUTSIDE = ["\x01", "\x1f", "\x7f", "\x80", "\xbf", "\xc1\xbf", "\xc3", "\xc3\xc3",
            "\xe0\x9f\xbf", "\xed\xa0\x80", "\xed\xbf\xbf", "\xf0\x8f\xbf\xbf",
            "\xf4\x90\x80\x80", "\xf8\x80\x80\x80", "\xff", "1\r2"]
@@ -44,7 +46,7 @@ def spelled() -> list[str]:
         "\n".join(reversed(lines)), "\n".join(f"\t {line}\t " for line in lines),
         "\n".join(line.replace(" ", "") for line in lines), "\n".join(f"{it} # 5" for it in lines),
         "# clients = 5\n \t\n" + "\n".join(f"{it}# {it}" for it in lines) + "\n#",
-        *(f"# \t{it}\n\r\n{text_of(USUAL)}" for it in AT_BOUNDS),
+        *(f"# \t{it}\n\r\n{text_of(USUAL)}" for it in CHARACTERS),
     ]
 
 
@@ -76,9 +78,10 @@ def no_toml() -> list[str]:
     wrong = ["clients = 3", "kin", "kin =", "= 1", "kin = 01", "kin = 1 1", "kin = 1x", "kin == 1",
              "kin = 1,", "kin 1", "k n = 1", "kin = -", "kin = 1\0", "\0", "kin = \xb2", "?", "[",
              "?a = 1", "\xc3\xa4 = 1", f"kin = {1 << 63}", f"kin = {1 << 64}", f"kin = {10 ** 30}",
-             "kin = 1\r", "\r\r", "\f", *(f"kin = 1 # {it}" for it in OUTSIDE)]
+             "kin = 1\r\t", "\r\r", "\f", *(f"kin = 1 # {it}" for it in OUTSIDE)]
     texts = [text_of(USUAL) + it for it in wrong]
-    return [*texts, *(f"{it}\n{text_of(USUAL)}" for it in wrong), "clients = 3 pages = 4"]
+    texts += [f"{it}\n{text_of(USUAL)}" for it in wrong]
+    return [*texts, "clients = 3 pages = 4", f"{text_of(USUAL)}kin = 1\r"]
 
 
 # What is TOML, and no KEY = NUMBER.
@@ -96,31 +99,31 @@ def ended(words: tuple, config: Path, store: Path) -> tuple[int, bytes, bytes]:
 
 
 def answer(room: Path, words: tuple, text: str) -> tuple[int, bytes, bytes]:
-    """How it ends with this configuration, of which each sign is a byte."""
+    """How it ends with this configuration, of which each character is a byte."""
     with tempfile.TemporaryDirectory(dir=room) as folder:
         config = Path(folder) / "config"
         config.write_bytes(text.encode("latin-1"))
         return ended(words, config, Path(folder) / "store.db")
 
 
-def differ(room: Path, play: Path, serve: Path, texts: list[str]) -> str:
-    """The first texts to which the two say other things."""
+def differ(room: Path, play: Path, serve: Path, texts: list[str], wanted: tuple | None) -> str:
+    """The first texts to which the two say other things, or not what is wanted."""
     found = []
     for text in texts:
         one, other = answer(room, (play, "serve"), text), answer(room, (serve,), text)
-        if one != other:
+        if one != other or one != (wanted or one):
             found.append(f"{text!r}: {one}, {other}")
     return "\n".join(found[:5])
 
 
-def taken_other(room: Path, play: Path, serve: Path) -> str:
+def other_toml(room: Path, play: Path, serve: Path) -> str:
     """The first texts of other TOML that `cb_play serve` says to be none, or `rughvadi-serve`
     doesn't."""
     found = []
     for it in OTHER:
         one = answer(room, (play, "serve"), text_of(USUAL) + it)
         other = answer(room, (serve,), text_of(USUAL) + it)
-        if one[2] == b"config: text\n" or other != (2, b"", b"config: text\n"):
+        if one == NO_TEXT or other != NO_TEXT:
             found.append(f"{it!r}: {one}, {other}")
     return "\n".join(found[:5])
 
@@ -139,11 +142,12 @@ def unreadable(room: Path, play: Path, serve: Path) -> str:
 def tried(tries, room: Path, play: Path, serve: Path) -> None:
     """Compares the two servers."""
     room.mkdir(mode=0o755)
-    for make in (spelled, at_bounds, wrong_twice, no_toml):
+    wanted = {spelled: TAKEN, at_bounds: None, wrong_twice: None, no_toml: NO_TEXT}
+    for make, answered in wanted.items():
         texts = make()
-        why = differ(room, play, serve, texts)
+        why = differ(room, play, serve, texts, answered)
         tries.told(f"{len(texts)} configurations: {make.__name__.replace('_', ' ')}", not why, why)
     why = unreadable(room, play, serve)
     tries.told("configurations: unreadable", not why, why)
-    why = taken_other(room, play, serve)
+    why = other_toml(room, play, serve)
     tries.told(f"{len(OTHER)} configurations: other TOML", not why, why)

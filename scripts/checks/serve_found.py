@@ -41,7 +41,7 @@ OLDER_ROWS = "".join([
     *(f"INSERT INTO page VALUES ({no}, {version}, {body});"
       for no, (version, body) in enumerate(zip(VERSIONS, BODIES))),
 ])
-AT = "UPDATE mark2 SET commits = {0}; UPDATE page2 SET version = {0}"
+AT_COMMIT = "UPDATE mark2 SET commits = {0}; UPDATE page2 SET version = {0}"
 COMMITS = 2 * CLIENTS  # that are made over a file
 # Tables that are read, those without a number for each commit, and those in which one thing is
 # wrong.
@@ -51,9 +51,10 @@ TAKEN = {
     "older tables": OLDER + OLDER_ROWS,
     "other tables": "CREATE TABLE other(a); INSERT INTO other VALUES (1)",
     "tables that aren't strict": (NEWER + NEWER_ROWS).replace("STRICT", ""),
-    "just as many numbers as are used": NEWER + NEWER_ROWS + AT.format((1 << 62) - 1 - COMMITS),
+    "just as many numbers as are used": NEWER + NEWER_ROWS
+    + AT_COMMIT.format((1 << 62) - 1 - COMMITS),
 }
-SPENT = {"a number too few": NEWER + NEWER_ROWS + AT.format((1 << 62) - COMMITS)}
+SPENT = {"a number too few": NEWER + NEWER_ROWS + AT_COMMIT.format((1 << 62) - COMMITS)}
 WRONG_NEWER = {
     "a page missing": "DELETE FROM page2 WHERE no = 3",
     "a page missing amid the others": "DELETE FROM page2 WHERE no = 1",
