@@ -1,5 +1,5 @@
-//! Tests by public calls of a store in the tables of a database and of services over it, with no
-//! thread beside it, and databases whose files lie on disks in memory.
+//! Tests by public calls of a store in the tables of a database, which no threads share, and of
+//! services over it, and databases whose files lie on disks in memory.
 #![tactic(auto)]
 
 #[cfg(test)]

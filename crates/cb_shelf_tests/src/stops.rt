@@ -9,10 +9,13 @@ use crate::lives::{HELLO, RANGE, UNKEPT};
 use crate::shapes::{NEW, OLD, OLD_STORE};
 use cb_page::Limits;
 use cb_shelf::ShelfFault;
+use cb_test_parts::beside::all_go_well;
 use sqlite::Files;
 use sqlite_disk::{Fuse, Memory};
 use std::alloc::Global;
+use std::sync::Wait;
 use std::test::Fail;
+use std::thread::Threads;
 
 /// Tables that a text makes: the store in them, the floor of the first life over them, and whether
 /// they are a shelf's own, which it opens without a call of a disk.
@@ -187,53 +190,41 @@ fn count_stops(
 }
 
 /// Whether each stop over these tables leaves what it may, and some come in each part of a session.
-fn survive_stops(alloc: Global, tables: Tables, is_log: bool) -> Result<bool, Fail> {
-    let limits = Limits::new(1, 2, 16, 2, 1, 1)?;
+fn survives_stops(alloc: Global, limits: &Limits, tables: Tables, is_log: bool) -> bool {
     let Some(files) = files_after(alloc, tables.text) else {
-        return Ok(false);
+        return false;
     };
-    let stops = count_stops(alloc, &limits, &files, tables, is_log);
-    Ok(stops.is_some_and(|stops| stops.are_some(tables)))
+    let stops = count_stops(alloc, limits, &files, tables, is_log);
+    stops.is_some_and(|stops| stops.are_some(tables))
+}
+
+/// The same over each of these tables, each on a thread of its own.
+fn survive_stops<R: Threads + Wait>(
+    rt: &R,
+    alloc: Global,
+    tables: &[Tables],
+    is_log: bool,
+) -> Result<bool, Fail> {
+    let limits = Limits::new(1, 2, 16, 2, 1, 1)?;
+    Ok(all_go_well(
+        rt,
+        tables.len(),
+        &|number: usize| {
+            let at = tables.get(number);
+            at.is_some_and(|tables| survives_stops(alloc, &limits, *tables, is_log))
+        },
+    ))
 }
 
 #[test]
-fn log_stops_over_no_tables(rt: HostRuntime) -> Result<(), Fail> {
-    assert!(rt; survive_stops(rt.alloc(), NO_TABLES, true)?);
+fn log_stops(rt: HostRuntime) -> Result<(), Fail> {
+    assert!(rt; survive_stops(&rt, rt.alloc(), &[NO_TABLES, OTHER, OLDER], true)?);
     Ok(())
 }
 
 #[test]
-fn file_stops_over_no_tables(rt: HostRuntime) -> Result<(), Fail> {
-    assert!(rt; survive_stops(rt.alloc(), NO_TABLES, false)?);
-    Ok(())
-}
-
-#[test]
-fn log_stops_beside_another_table(rt: HostRuntime) -> Result<(), Fail> {
-    assert!(rt; survive_stops(rt.alloc(), OTHER, true)?);
-    Ok(())
-}
-
-#[test]
-fn file_stops_beside_another_table(rt: HostRuntime) -> Result<(), Fail> {
-    assert!(rt; survive_stops(rt.alloc(), OTHER, false)?);
-    Ok(())
-}
-
-#[test]
-fn log_stops_over_older_tables(rt: HostRuntime) -> Result<(), Fail> {
-    assert!(rt; survive_stops(rt.alloc(), OLDER, true)?);
-    Ok(())
-}
-
-#[test]
-fn file_stops_over_older_tables(rt: HostRuntime) -> Result<(), Fail> {
-    assert!(rt; survive_stops(rt.alloc(), OLDER, false)?);
-    Ok(())
-}
-
-#[test]
-fn file_stops_over_tables_without_lives(rt: HostRuntime) -> Result<(), Fail> {
-    assert!(rt; survive_stops(rt.alloc(), LIFELESS, false)?);
+fn file_stops(rt: HostRuntime) -> Result<(), Fail> {
+    let tables = [NO_TABLES, OTHER, OLDER, LIFELESS];
+    assert!(rt; survive_stops(&rt, rt.alloc(), &tables, false)?);
     Ok(())
 }

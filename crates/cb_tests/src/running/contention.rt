@@ -1,6 +1,11 @@
 //! Many clients that fight for two pages, and a disk that is full for a while.
 use crate::running::gates::{Act, Plan};
 use crate::running::run::{Came, open_plan, run_to_end};
+use cb_test_parts::beside::all_go_well;
+use std::alloc::Global;
+use std::sync::Wait;
+use std::thread::Threads;
+use std::time::Clock;
 
 /// Every job is done, with few aborted tries.
 #[test]
@@ -18,16 +23,23 @@ fn of_eight(act: Act) -> Plan {
     }
 }
 
+/// Whether a run whose office is halted at that call ends well.
+fn ends_halted<R: Threads + Wait + Clock + Sync>(rt: &R, alloc: Global, at: u64) -> bool {
+    let act = Act::CutOff { at, halts: true };
+    matches!(run_to_end(rt, alloc, of_eight(act)), Came::Done(_))
+}
+
 /// While tries wait for others the office is halted: all end, and every ticket comes back.
 #[test]
 fn halted_while_tries_wait(rt: HostRuntime) {
-    let halts = true;
-    for at in [40, 80, 120] {
-        match run_to_end(&rt, rt.alloc(), of_eight(Act::CutOff { at, halts })) {
-            Came::Done(_) => {}
-            _ => assert!(rt; false),
-        }
-    }
+    let alloc = rt.alloc();
+    assert!(rt;
+        all_go_well(
+            &rt,
+            3,
+            &|at: usize| ends_halted(&rt, alloc, 40 + 40 * at as u64)
+        )
+    );
 }
 
 /// Where the disk has room again before the third try nothing is lost.

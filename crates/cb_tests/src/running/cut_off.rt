@@ -2,6 +2,7 @@
 //! that is halted or closed at each moment in turn.
 use crate::running::gates::{Act, Plan};
 use crate::running::run::{Came, run_to_end};
+use cb_test_parts::beside::all_go_well;
 use std::alloc::Global;
 use std::sync::Wait;
 use std::thread::Threads;
@@ -54,7 +55,7 @@ fn cut_off<R: Threads + Wait + Clock + Sync>(rt: &R, alloc: Global, at: u64, hal
 }
 
 /// Whether a run that is halted or closed there ends well.
-fn ends_at_once<R: Threads + Wait + Clock + Sync>(
+fn ends_well<R: Threads + Wait + Clock + Sync>(
     rt: &R,
     alloc: Global,
     at: u64,
@@ -67,12 +68,19 @@ fn ends_at_once<R: Threads + Wait + Clock + Sync>(
     }
 }
 
+/// Whether a run that is halted at each call, or behind the last one, ends well; or that is closed.
+fn end_well<R: Threads + Wait + Clock + Sync>(rt: &R, alloc: Global, halts: bool) -> bool {
+    all_go_well(
+        rt,
+        2 * CALLS as usize + 1,
+        &|at: usize| { ends_well(rt, alloc, at as u64, halts) },
+    )
+}
+
 #[test]
 fn halted_or_closed_at_each_call(rt: HostRuntime) {
-    for at in 0..2 * CALLS + 1 {
-        assert!(rt; ends_at_once(&rt, rt.alloc(), at, true));
-        assert!(rt; ends_at_once(&rt, rt.alloc(), at, false));
-    }
+    assert!(rt; end_well(&rt, rt.alloc(), true));
+    assert!(rt; end_well(&rt, rt.alloc(), false));
 }
 
 /// All at work do all their jobs in an office that was closed before the first one, and all is on

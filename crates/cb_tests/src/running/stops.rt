@@ -7,6 +7,7 @@ use cb_commit::Store;
 use cb_office::counter_sum;
 use cb_page::{Limits, PageNo};
 use cb_shelf::Shelf;
+use cb_test_parts::beside::all_go_well;
 use sqlite::Alter;
 use std::alloc::Global;
 use std::sync::Wait;
@@ -44,15 +45,19 @@ pub(crate) fn is_beginning<S: Alter>(
     }
 }
 
-/// Whether more runs stop than so many, one for each call of the log or of the database in turn,
-/// until one doesn't, and none is wrong.
-fn stops_often<R: Threads + Wait + Clock + Sync>(
+/// How many threads share the calls at which a disk stops.
+const SHARES: usize = 4;
+
+/// Whether runs stop at the calls of a share, one after another, until one doesn't, which is behind
+/// so many calls, and none is wrong.
+fn stop_in_share<R: Threads + Wait + Clock + Sync>(
     rt: &R,
     alloc: Global,
     is_log: bool,
     least: u64,
+    share: usize,
 ) -> bool {
-    for stop in 0..1_000 {
+    for stop in (share as u64..1_000).step_by(SHARES) {
         let calls = if is_log {
             (stop, u64::MAX)
         } else {
@@ -64,6 +69,20 @@ fn stops_often<R: Threads + Wait + Clock + Sync>(
         }
     }
     false
+}
+
+/// The same of each call of the log, or else of the database's file.
+fn stops_often<R: Threads + Wait + Clock + Sync>(
+    rt: &R,
+    alloc: Global,
+    is_log: bool,
+    least: u64,
+) -> bool {
+    all_go_well(
+        rt,
+        SHARES,
+        &|share: usize| { stop_in_share(rt, alloc, is_log, least, share) },
+    )
 }
 
 #[test]
