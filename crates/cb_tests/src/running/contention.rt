@@ -23,23 +23,31 @@ fn of_eight(act: Act) -> Plan {
     }
 }
 
+/// The calls of the gate at which the office is halted, each in a run of its own.
+const HALTED_AT: [u64; 3] = [40, 80, 120];
+
 /// Whether a run whose office is halted at that call ends well.
 fn ends_halted<R: Threads + Wait + Clock + Sync>(rt: &R, alloc: Global, at: u64) -> bool {
     let act = Act::CutOff { at, halts: true };
     matches!(run_to_end(rt, alloc, of_eight(act)), Came::Done(_))
 }
 
+/// The same of each such call.
+fn end_halted<R: Threads + Wait + Clock + Sync>(rt: &R, alloc: Global) -> bool {
+    all_go_well(
+        rt,
+        HALTED_AT.len(),
+        &|number: usize| {
+            let at = HALTED_AT.get(number);
+            at.is_some_and(|at| ends_halted(rt, alloc, *at))
+        },
+    )
+}
+
 /// While tries wait for others the office is halted: all end, and every ticket comes back.
 #[test]
 fn halted_while_tries_wait(rt: HostRuntime) {
-    let alloc = rt.alloc();
-    assert!(rt;
-        all_go_well(
-            &rt,
-            3,
-            &|at: usize| ends_halted(&rt, alloc, 40 + 40 * at as u64)
-        )
-    );
+    assert!(rt; end_halted(&rt, rt.alloc()));
 }
 
 /// Where the disk has room again before the third try nothing is lost.
