@@ -7,7 +7,11 @@
 #include <sys/un.h>
 #include <unistd.h>
 
-enum { BACKLOG = 1024 /* connections that the system accepts beforehand */ };
+enum {
+  BACKLOG = 1024, /* connections that the system accepts beforehand */
+  TRIES = 40,     /* how often a socket's place is tried */
+  PAUSE = 25      /* from one try to the next, in milliseconds */
+};
 
 /* Takes a socket away that an ended process left, and nobody listens to. A file of another kind
  * refuses a connection too, and stays. */
@@ -28,13 +32,24 @@ static void remove_left(const char *path) {
   }
 }
 
+/* Binds to the socket's place. While somebody else listens there it tries again: a process that a
+ * killed gateway was beginning has its listener until it is the server's program. */
+static int bind_local(uv_pipe_t *listener, const char *path) {
+  int fault = UV_EADDRINUSE;
+  for (int tries = 0; fault == UV_EADDRINUSE && tries < TRIES; tries++) {
+    uv_sleep(tries > 0 ? PAUSE : 0);
+    remove_left(path);
+    fault = uv_pipe_bind(listener, path);
+  }
+  return fault;
+}
+
 int listen_local(uv_pipe_t *listener, const char *path, uv_connection_cb came) {
   if (strlen(path) >= sizeof((struct sockaddr_un *)0)->sun_path) {
     return UV_ENAMETOOLONG; /* libuv would cut it */
   }
-  remove_left(path);
   mode_t before = umask(0177);
-  int fault = uv_pipe_bind(listener, path);
+  int fault = bind_local(listener, path);
   umask(before);
   return fault != 0 ? fault : uv_listen((uv_stream_t *)listener, BACKLOG, came);
 }

@@ -4,7 +4,8 @@
 
 #include <uv.h>
 
-/* At a Unix socket that its owner alone may use. One that an ended process left is taken away. */
+/* At a Unix socket that its owner alone may use. One that an ended process left is taken away.
+ * While somebody listens there it waits, for a second. */
 int listen_local(uv_pipe_t *listener, const char *path, uv_connection_cb came);
 
 /* At a port of an address. */

@@ -4,6 +4,7 @@ from __future__ import annotations
 
 import os
 import signal
+import socket
 import stat
 import struct
 import subprocess
@@ -428,11 +429,33 @@ def open_files(scene: Scene) -> bool:
     return 3 * 32 + 128 < found[0][0] <= 4096 and not found[0][1] and found[1] == (128, True)
 
 
+# ---- who listens there ----
+
+
+def waits_for_a_listener(scene: Scene) -> bool:
+    """Whether a gateway waits while another process listens at its socket."""
+    gateway = scene.served()
+    gateway.stop(signal.SIGKILL)
+    gateway.socket.unlink()
+    with socket.socket(socket.AF_UNIX) as held:
+        held.bind(str(gateway.socket))
+        held.listen()
+        gateway.spawn()
+        held.accept()[0].close()  # it has looked who listens
+    return gateway.process.stdout.readline() == b"ready\n" and is_served(gateway, 1)
+
+
+def listener_left(scene: Scene) -> bool:
+    """Who has the listener of a killed gateway goes soon: the next one waits, and listens. On a
+    machine so busy that a second passes before he goes it is tried again."""
+    return any(waits_for_a_listener(scene) for _ in range(5))
+
+
 SCENES = [
     strangers_at_the_port, strangers_at_the_socket, greetings_that_are_there, slow_greeting,
     told_of_strangers, bytes_are_no_answer, answers_count, aborts_are_owed, slow_frame,
     announced_lives, unannounced_servers, announced_later, stops_while_it_waits, silent_servers,
-    databases_elsewhere, owned_files, held_outputs, bounded_commits, open_files,
+    databases_elsewhere, owned_files, held_outputs, bounded_commits, open_files, listener_left,
 ]
 
 
