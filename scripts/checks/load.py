@@ -5,7 +5,7 @@
 What a test says may not depend on who comes first, on time, or on how many processors there are.
 The busy machine is this one, with twice as many endless loops as it has processors, and as many
 tests at once as it has processors. Each run is a process of its own, with the gate's limit of 60
-seconds. Tests that start threads have `running::` in their names.
+seconds. Tests that start threads have `running::` or `stops::` in their names.
 
 A line for each test: its name, how many of its runs failed, and the longest in seconds. Of a run
 that failed the last lines that it wrote stand above.
