@@ -440,6 +440,7 @@ def waits_for_a_listener(scene: Scene) -> bool:
     with socket.socket(socket.AF_UNIX) as held:
         held.bind(str(gateway.socket))
         held.listen()
+        held.settimeout(60)
         gateway.spawn()
         held.accept()[0].close()  # it has looked who listens
     return gateway.process.stdout.readline() == b"ready\n" and is_served(gateway, 1)
