@@ -1,7 +1,7 @@
 //! Databases whose files lie on disks of the tests.
 
 use sqlite::{Alter, Connection, FileStore, Files, Options};
-use sqlite_disk::Disk;
+use sqlite_disk::{Disk, Memory};
 use std::alloc::Global;
 
 /// Opens the database, or gives the files back.
@@ -28,4 +28,28 @@ fn store_of<S: Alter + Drop>(conn: Connection<S>) -> S {
 /// The files of a connection.
 pub fn files_of<D: Disk + Drop>(conn: Connection<FileStore<D>>) -> Files<D> {
     store_of(conn).close()
+}
+
+/// How a database begins that SQLite made, without tables, with a log and with pages of 1,024 bytes.
+/// Zeros follow to the end of its page.
+const BEGINNING: [u8; 108] = [
+    83, 81, 76, 105, 116, 101, 32, 102, 111, 114, 109, 97, 116, 32, 51, 0, 4, 0, 2, 2, 0, 64, 32,
+    32, 0, 0, 0, 2, 0, 0, 0, 1, 0, 0, 0, 0, 0, 0, 0, 0, 0, 0, 0, 3, 0, 0, 0, 0, 0, 0, 0, 0, 0, 0,
+    0, 0, 0, 0, 0, 1, 0, 0, 0, 0, 0, 0, 0, 0, 0, 0, 0, 0, 0, 0, 0, 0, 0, 0, 0, 0, 0, 0, 0, 0, 0, 0,
+    0, 0, 0, 0, 0, 0, 0, 0, 0, 2, 0, 46, 99, 1, 13, 0, 0, 0, 0, 4, 0, 0,
+];
+
+/// A disk with these bytes, which are synced. None where memory is refused.
+pub(crate) fn disk_of(alloc: Global, bytes: &[u8]) -> Option<Memory> {
+    let mut disk = Memory::new(alloc);
+    let is_made = disk.write_at(0, bytes).is_ok() && disk.sync().is_ok();
+    is_made.then_some(disk)
+}
+
+/// A disk with a database of small pages, which tests get through faster: without proofs most of
+/// their time goes to the bytes of pages. It is empty where memory is refused.
+pub fn small_database(alloc: Global) -> Memory {
+    let mut page = [0u8; 1_024];
+    page[..BEGINNING.len()].copy_from_slice(&BEGINNING);
+    disk_of(alloc, &page).unwrap_or_else(|| Memory::new(alloc))
 }

@@ -1,7 +1,7 @@
 //! Sessions over a database whose files lie on disks in memory, of which one may stop.
 
 use crate::batches::{Writing, writes};
-use crate::databases::{connect, files_of};
+use crate::databases::{connect, disk_of, files_of, small_database};
 use cb_commit::Store;
 use cb_page::{Incarnation, Limits, PageNo};
 use cb_shelf::{Life, Shelf, ShelfFault};
@@ -79,19 +79,17 @@ pub(crate) enum SessionEnd {
 /// A store of two pages: its number, and the version of each page and the byte that fills it.
 pub(crate) type TwoPages = (u64, [(u64, u8); 2]);
 
-/// New files, which don't stop.
-pub(crate) fn new_files(alloc: Global) -> Files<Fuse<Memory>> {
+/// Files with an empty log and this database, which don't stop.
+fn files_with(alloc: Global, db: Memory) -> Files<Fuse<Memory>> {
     Files {
         log: Fuse::new(Memory::new(alloc), u64::MAX),
-        db: Fuse::new(Memory::new(alloc), u64::MAX),
+        db: Fuse::new(db, u64::MAX),
     }
 }
 
-/// A disk with these bytes, which are synced. None where memory is refused.
-fn disk_of(alloc: Global, bytes: &[u8]) -> Option<Memory> {
-    let mut disk = Memory::new(alloc);
-    let is_made = disk.write_at(0, bytes).is_ok() && disk.sync().is_ok();
-    is_made.then_some(disk)
+/// New files, which don't stop.
+pub(crate) fn new_files(alloc: Global) -> Files<Fuse<Memory>> {
+    files_with(alloc, Memory::new(alloc))
 }
 
 /// New files with the bytes of these: after so many calls the log stops, or else the other one.
@@ -134,9 +132,15 @@ pub(crate) fn new_database(
     }
 }
 
-/// The files of a new database over which this text ran. None where it didn't run.
+/// The files of a database over which this text ran; None where it didn't. The database is new where
+/// the text is empty; else it has small pages.
 pub(crate) fn files_after(alloc: Global, text: &str) -> Option<Files<Fuse<Memory>>> {
-    let mut conn = new_database(alloc).ok()?;
+    let files = if text.is_empty() {
+        new_files(alloc)
+    } else {
+        files_with(alloc, small_database(alloc))
+    };
+    let mut conn = connect(alloc, files, OFTEN).ok()?;
     let ran = run_texts(&mut conn, [text, ""]);
     let files = files_of(conn);
     ran.then_some(files)

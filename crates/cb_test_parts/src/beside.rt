@@ -5,7 +5,7 @@ use std::sync::atomic::{AtomicUsize, Ordering};
 use std::thread;
 use std::thread::Threads;
 
-/// Whether so many runs go well, each on a thread of its own that hands its number over.
+/// Whether so many runs go well, each on a thread of its own, which gets its number.
 pub fn all_go_well<R: Threads + Wait, F: Fn(usize) -> bool + Sync>(
     rt: &R,
     count: usize,

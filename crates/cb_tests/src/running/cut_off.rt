@@ -68,7 +68,8 @@ fn ends_well<R: Threads + Wait + Clock + Sync>(
     }
 }
 
-/// Whether a run that is halted at each call, or behind the last one, ends well; or that is closed.
+/// Whether a run ends well that is halted at a call, or behind the last one, whichever that is. Else
+/// it is closed there.
 fn end_well<R: Threads + Wait + Clock + Sync>(rt: &R, alloc: Global, halts: bool) -> bool {
     all_go_well(
         rt,

@@ -8,7 +8,7 @@ use crate::running::hurried::Hurried;
 use crate::running::looking::Looks;
 use crate::running::work::{ShelfTask, Work, WorkEnd, opening, work_on};
 use cb_page::Limits;
-use cb_shelf_tests::databases::{connect, files_of};
+use cb_shelf_tests::databases::{connect, files_of, small_database};
 use sqlite::{Connection, Files, Options};
 use sqlite_disk::{Crash, Disk, Fuse, Memory};
 use std::alloc::Global;
@@ -73,12 +73,18 @@ fn over<R: Threads + Wait + Clock + Sync, D: Disk + Drop>(
     }
 }
 
-/// New files, with these faults.
+/// New files with these faults. Where no disk stops there is a database of small pages.
 fn new_files<'a, R: Wait>(
     rt: &'a R,
     alloc: Global,
     faults: Faults<'a>,
 ) -> Files<Balky<'a, R, Fuse<Memory>>> {
+    let stops = faults.log != u64::MAX || faults.db != u64::MAX;
+    let db = if stops {
+        Memory::new(alloc)
+    } else {
+        small_database(alloc)
+    };
     Files {
         log: Balky::new(
             rt,
@@ -87,13 +93,7 @@ fn new_files<'a, R: Wait>(
             faults.clock,
             faults.looks,
         ),
-        db: Balky::new(
-            rt,
-            Fuse::new(Memory::new(alloc), faults.db),
-            None,
-            None,
-            None,
-        ),
+        db: Balky::new(rt, Fuse::new(db, faults.db), None, None, None),
     }
 }
 
@@ -115,7 +115,28 @@ pub(crate) fn once<R: Threads + Wait + Clock + Sync>(
     over(&hurried(rt, faults), alloc, clients, files, work).0
 }
 
+/// What came of work, and whether a disk is spoiled: a sync of it failed, so it can't be used.
+pub(crate) type Reached = (WorkEnd, bool);
+
 /// Does both over new disks, with so many clients, and a crash between them.
+pub(crate) fn both_with_disks<R: Threads + Wait + Clock + Sync>(
+    rt: &R,
+    alloc: Global,
+    clients: u16,
+    faults: Faults<'_>,
+    works: [Work<'_>; 2],
+) -> (Reached, Reached) {
+    let hurried = hurried(rt, faults);
+    let files = new_files(rt, alloc, faults);
+    let (first, mut files) = over(&hurried, alloc, clients, files, works[0]);
+    let is_spoiled = !files.may_be_used();
+    files.log.crash();
+    files.db.crash();
+    let (second, files) = over(&hurried, alloc, clients, files, works[1]);
+    ((first, is_spoiled), (second, !files.may_be_used()))
+}
+
+/// What came of both alone.
 pub(crate) fn both<R: Threads + Wait + Clock + Sync>(
     rt: &R,
     alloc: Global,
@@ -123,11 +144,6 @@ pub(crate) fn both<R: Threads + Wait + Clock + Sync>(
     faults: Faults<'_>,
     works: [Work<'_>; 2],
 ) -> (WorkEnd, WorkEnd) {
-    let hurried = hurried(rt, faults);
-    let files = new_files(rt, alloc, faults);
-    let (reached, mut files) = over(&hurried, alloc, clients, files, works[0]);
-    files.log.crash();
-    files.db.crash();
-    let (left, _) = over(&hurried, alloc, clients, files, works[1]);
-    (reached, left)
+    let (first, second) = both_with_disks(rt, alloc, clients, faults, works);
+    (first.0, second.0)
 }

@@ -1,6 +1,6 @@
 //! A run that ends well or for want of memory. In the gate nothing is refused; `scripts/check
 //! refused run` refuses each growth of it in turn, and each thread.
-use crate::running::disks::{NONE, both};
+use crate::running::disks::{NONE, Reached, both_with_disks};
 use crate::running::gates::Counts;
 use crate::running::run::{Came, open_plan};
 use crate::running::trials::Trial;
@@ -21,30 +21,43 @@ enum End {
     Done,
     /// Memory was refused, or a thread; the disk has at least what was answered as done.
     Memory,
+    /// The test's own disk wanted memory for a sync, which failed so; it has at least the same.
+    Disk,
     /// Memory was refused before or behind the run, or as its line was printed.
     Outside,
     Wrong,
 }
 
-/// What a refusal behind the run, as its disk is looked at, may leave of that look.
-fn is_unseen(end: WorkEnd) -> bool {
+/// What a refusal behind the run, as its disk is looked at, may leave of that look. A disk that is
+/// spoiled says nothing.
+fn is_unseen(end: WorkEnd, is_spoiled: bool) -> bool {
     match end {
         WorkEnd::Nothing | WorkEnd::Database => true,
+        WorkEnd::Refused(ShelfFault::Store) => is_spoiled,
         WorkEnd::Refused(fault) => fault == ShelfFault::Memory,
         _ => false,
     }
 }
 
+/// How a run may end whose disk is spoiled.
+fn is_stopped(end: WorkEnd) -> bool {
+    match end {
+        WorkEnd::Nothing | WorkEnd::Database | WorkEnd::Refused(ShelfFault::Store) => true,
+        end => end == WorkEnd::Ran(Came::Stopped),
+    }
+}
+
 /// How it ended, by what came of the run and of the look at its disk. No more than one growth is
 /// refused, so that the look goes well where the run doesn't.
-fn end_of(ran: WorkEnd, seen: WorkEnd) -> End {
-    let is_seen = seen == WorkEnd::Well(true);
+fn end_of(ran: Reached, seen: Reached) -> End {
+    let is_seen = seen.0 == WorkEnd::Well(true);
     match ran {
-        WorkEnd::Ran(Came::Done(answered)) if answered == ALL && is_seen => End::Done,
-        WorkEnd::Ran(Came::Done(answered)) if answered == ALL && is_unseen(seen) => End::Outside,
-        WorkEnd::Ran(Came::Memory) if is_seen => End::Memory,
-        WorkEnd::Ran(Came::Unseen) if is_seen => End::Outside,
-        ran if is_unseen(ran) && is_seen => End::Outside,
+        (WorkEnd::Ran(Came::Done(ALL)), _) if is_seen => End::Done,
+        (WorkEnd::Ran(Came::Done(ALL)), false) if is_unseen(seen.0, seen.1) => End::Outside,
+        (WorkEnd::Ran(Came::Memory), false) if is_seen => End::Memory,
+        (WorkEnd::Ran(Came::Unseen), false) if is_seen => End::Outside,
+        (ran, true) if is_stopped(ran) && is_seen => End::Disk,
+        (ran, false) if is_unseen(ran, false) && is_seen => End::Outside,
         _ => End::Wrong,
     }
 }
@@ -54,7 +67,7 @@ fn ended<R: Threads + Wait + Clock + Sync>(rt: &R, alloc: Global) -> End {
     let counts = Counts::new(open_plan(2, 2, 0));
     let run = opening(ShelfTask::Try(Trial::Run(&counts)));
     let works = [run, opening(ShelfTask::Begin(&counts))];
-    let (ran, seen) = both(rt, alloc, 2, NONE, works);
+    let (ran, seen) = both_with_disks(rt, alloc, 2, NONE, works);
     end_of(ran, seen)
 }
 
@@ -63,6 +76,7 @@ fn word_of(end: End) -> &'static str {
     match end {
         End::Done => "done",
         End::Memory => "memory",
+        End::Disk => "disk",
         End::Outside => "outside",
         End::Wrong => "wrong",
     }
