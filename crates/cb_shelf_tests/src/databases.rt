@@ -30,7 +30,7 @@ pub fn files_of<D: Disk + Drop>(conn: Connection<FileStore<D>>) -> Files<D> {
     store_of(conn).close()
 }
 
-/// How a database begins that SQLite made, without tables, with a log and with pages of 1,024 bytes.
+/// How a database begins that SQLite made, with a log and pages of 1,024 bytes, and without tables.
 /// Zeros follow to the end of its page.
 const BEGINNING: [u8; 108] = [
     83, 81, 76, 105, 116, 101, 32, 102, 111, 114, 109, 97, 116, 32, 51, 0, 4, 0, 2, 2, 0, 64, 32,

@@ -132,8 +132,8 @@ pub(crate) fn new_database(
     }
 }
 
-/// The files of a database over which this text ran; None where it didn't. The database is new where
-/// the text is empty; else it has small pages.
+/// The files of a database over which this text ran; None where it didn't. Where the text is empty
+/// the database is new, and else it has small pages.
 pub(crate) fn files_after(alloc: Global, text: &str) -> Option<Files<Fuse<Memory>>> {
     let files = if text.is_empty() {
         new_files(alloc)

@@ -68,8 +68,8 @@ fn ends_well<R: Threads + Wait + Clock + Sync>(
     }
 }
 
-/// Whether a run ends well that is halted at a call, or behind the last one, whichever that is. Else
-/// it is closed there.
+/// Whether each run ends well that is halted at a call or behind the last one. Where none is to be
+/// halted, each is closed there.
 fn end_well<R: Threads + Wait + Clock + Sync>(rt: &R, alloc: Global, halts: bool) -> bool {
     all_go_well(
         rt,
