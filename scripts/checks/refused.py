@@ -31,8 +31,8 @@ Each begins the program anew for each growth that it makes, and refuses that one
 - run: a test of cb_tests over disks in memory, with two clients of two jobs each. However a run
   with one refused growth ends, all threads end, every ticket is back, and the disk has at least
   what was answered as done; it says how many ended as done, how many by want of memory, how many
-  since the test's own disk wanted it for a sync and can't be used any more, and how many were
-  refused outside the run. Where a thread can't be made it ends by want of memory. A worker, `work`
+  since the test's own disk was refused it and the run stopped, and how many were refused outside
+  the run. Where a thread can't be made it ends by want of memory. A worker, `work`
   and the flusher take memory there as their threads come to it, so that the growth of a number
   isn't the same in each run. JOBS is how many runs there are at once (2).
 - growths: six tests of cb_layer_tests, each of which passes whichever growth is refused. The others

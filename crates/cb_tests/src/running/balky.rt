@@ -23,6 +23,8 @@ pub(crate) struct Balky<'a, R, D: Disk> {
     /// What is looked at before each write.
     looks: Option<Looks<'a>>,
     refused: u64,
+    /// Whether the disk below was refused memory for a write or a sync.
+    has_wanted: bool,
 }
 
 impl<'a, R: Wait, D: Disk> Balky<'a, R, D> {
@@ -42,7 +44,13 @@ impl<'a, R: Wait, D: Disk> Balky<'a, R, D> {
             clock,
             looks,
             refused: 0,
+            has_wanted: false,
         }
+    }
+
+    /// Whether a write or a sync failed since the disk below was refused memory.
+    pub(crate) fn has_wanted(&self) -> bool {
+        self.has_wanted
     }
 
     /// The disk below.
@@ -62,6 +70,14 @@ fn tell(clock: Option<&OwnClock>) {
 fn look<R: Wait>(rt: &R, looks: Option<Looks<'_>>) {
     if let Some(looks) = looks {
         looks.counts.look(&looks.office.lock(rt));
+    }
+}
+
+/// Whether this failed for want of memory.
+fn wants_memory(outcome: &io::Result<()>) -> bool {
+    match outcome {
+        Ok(()) => false,
+        Err(error) => error.kind() == io::ErrorKind::OutOfMemory,
     }
 }
 
@@ -139,7 +155,9 @@ impl<R: Wait, D: Disk> Disk for Balky<'_, R, D> {
         tell(self.clock);
         look(self.rt, self.looks);
         refuse(self.left, &mut self.refused)?;
-        self.inner.write_at(at, bytes)
+        let written = self.inner.write_at(at, bytes);
+        self.has_wanted = self.has_wanted || wants_memory(&written);
+        written
     }
 
     fn set_len(&mut self, len: usize) -> io::Result<()> {
@@ -147,7 +165,9 @@ impl<R: Wait, D: Disk> Disk for Balky<'_, R, D> {
     }
 
     fn sync(&mut self) -> io::Result<()> {
-        self.inner.sync()
+        let synced = self.inner.sync();
+        self.has_wanted = self.has_wanted || wants_memory(&synced);
+        synced
     }
 }
 

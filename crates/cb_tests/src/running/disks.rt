@@ -115,7 +115,12 @@ pub(crate) fn once<R: Threads + Wait + Clock + Sync>(
     over(&hurried(rt, faults), alloc, clients, files, work).0
 }
 
-/// What came of work, and whether a disk is spoiled: a sync of it failed, so it can't be used.
+/// Whether a disk was refused memory for a write or a sync of it.
+fn have_wanted<R: Wait, D: Disk>(files: &Files<Balky<'_, R, D>>) -> bool {
+    files.log.has_wanted() || files.db.has_wanted()
+}
+
+/// What came of work, and whether a disk was refused memory for a write or a sync of it.
 pub(crate) type Reached = (WorkEnd, bool);
 
 /// Does both over new disks, with so many clients, and a crash between them.
@@ -129,11 +134,11 @@ pub(crate) fn both_with_disks<R: Threads + Wait + Clock + Sync>(
     let hurried = hurried(rt, faults);
     let files = new_files(rt, alloc, faults);
     let (first, mut files) = over(&hurried, alloc, clients, files, works[0]);
-    let is_spoiled = !files.may_be_used();
+    let had_wanted = have_wanted(&files);
     files.log.crash();
     files.db.crash();
     let (second, files) = over(&hurried, alloc, clients, files, works[1]);
-    ((first, is_spoiled), (second, !files.may_be_used()))
+    ((first, had_wanted), (second, have_wanted(&files)))
 }
 
 /// What came of both alone.

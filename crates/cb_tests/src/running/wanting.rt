@@ -21,29 +21,20 @@ enum End {
     Done,
     /// Memory was refused, or a thread; the disk has at least what was answered as done.
     Memory,
-    /// The test's own disk wanted memory for a sync, which failed so; it has at least the same.
+    /// The test's own disk was refused memory, and the run stopped; the disk has at least the same.
     Disk,
     /// Memory was refused before or behind the run, or as its line was printed.
     Outside,
     Wrong,
 }
 
-/// What a refusal behind the run, as its disk is looked at, may leave of that look. A disk that is
-/// spoiled says nothing.
-fn is_unseen(end: WorkEnd, is_spoiled: bool) -> bool {
+/// What a refusal before the run, or behind it as its disk is looked at, may leave of that.
+fn is_outside((end, has_wanted): Reached) -> bool {
     match end {
         WorkEnd::Nothing | WorkEnd::Database => true,
-        WorkEnd::Refused(ShelfFault::Store) => is_spoiled,
+        WorkEnd::Refused(ShelfFault::Store) => has_wanted,
         WorkEnd::Refused(fault) => fault == ShelfFault::Memory,
         _ => false,
-    }
-}
-
-/// How a run may end whose disk is spoiled.
-fn is_stopped(end: WorkEnd) -> bool {
-    match end {
-        WorkEnd::Nothing | WorkEnd::Database | WorkEnd::Refused(ShelfFault::Store) => true,
-        end => end == WorkEnd::Ran(Came::Stopped),
     }
 }
 
@@ -51,13 +42,13 @@ fn is_stopped(end: WorkEnd) -> bool {
 /// refused, so that the look goes well where the run doesn't.
 fn end_of(ran: Reached, seen: Reached) -> End {
     let is_seen = seen.0 == WorkEnd::Well(true);
-    match ran {
-        (WorkEnd::Ran(Came::Done(ALL)), _) if is_seen => End::Done,
-        (WorkEnd::Ran(Came::Done(ALL)), false) if is_unseen(seen.0, seen.1) => End::Outside,
-        (WorkEnd::Ran(Came::Memory), false) if is_seen => End::Memory,
-        (WorkEnd::Ran(Came::Unseen), false) if is_seen => End::Outside,
-        (ran, true) if is_stopped(ran) && is_seen => End::Disk,
-        (ran, false) if is_unseen(ran, false) && is_seen => End::Outside,
+    match ran.0 {
+        WorkEnd::Ran(Came::Done(ALL)) if is_seen => End::Done,
+        WorkEnd::Ran(Came::Done(ALL)) if is_outside(seen) => End::Outside,
+        WorkEnd::Ran(Came::Memory) if is_seen => End::Memory,
+        WorkEnd::Ran(Came::Stopped) if is_seen && ran.1 => End::Disk,
+        WorkEnd::Ran(Came::Unseen) if is_seen => End::Outside,
+        _ if is_outside(ran) && is_seen => End::Outside,
         _ => End::Wrong,
     }
 }
