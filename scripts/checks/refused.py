@@ -32,9 +32,9 @@ Each begins the program anew for each growth that it makes, and refuses that one
   with one refused growth ends, all threads end, every ticket is back, and the disk has at least
   what was answered as done; it says how many ended as done, how many by want of memory, how many
   since the test's own disk was refused it and the run stopped, and how many were refused outside
-  the run. Where a thread can't be made it ends by want of memory. A worker, `work`
-  and the flusher take memory there as their threads come to it, so that the growth of a number
-  isn't the same in each run. JOBS is how many runs there are at once (2).
+  the run. Where a thread can't be made it ends by want of memory; else no growth is looked at. A
+  worker, `work` and the flusher take memory there as their threads come to it, so that the growth
+  of a number isn't the same in each run. JOBS is how many runs there are at once (2).
 - growths: six tests of cb_layer_tests, each of which passes whichever growth is refused. The others
   want memory, and fail in such a run. JOBS is how many runs there are at once (2).
 
