@@ -205,10 +205,7 @@ def over(
     ]
 
 
-def linked(
-    crate: Path, libraries: Iterable[str], below: Path, *flags: str,
-    sources: Mapping[str, Path] = {},
-) -> Path:
+def linked(crate: Path, libraries: Iterable[str], below: Path, *flags: str) -> Path:
     """The program of a crate, or with `--test` its tests, proved over libraries that were built in
     a clone; it stands in the crate's folder `out`."""
     kit, is_program = toolchain(), (crate / "src/main.rt").exists()
@@ -217,7 +214,7 @@ def linked(
     tools = ["--toolchain", kit / "toolchain"]
     words = [kit / "bin/rattle", "build", "--crate-name", crate.name]
     words += ["src/main.rt" if is_program else "src/lib.rt", "--links", f"{crate.name}=", *flags]
-    words += [*over(libraries, below, kit, sources), *tools, "--backend", "llvm"]
+    words += [*over(libraries, below, kit), *tools, "--backend", "llvm"]
     link = [kit / "bin/rattle-link", "--target", "x86_64-unknown-linux-gnu", *tools, "-o", made]
     link += [f"{made}.o", kit / "c/libos_c.a", kit / "c/liblibc_c.a"]
     said = ""

@@ -4,6 +4,7 @@ import re
 from pathlib import Path
 
 import building
+import unproved
 from bodies.edits import Edit
 from bodies.prover import Prover, Said, ran
 from bodies.trials import Came
@@ -48,16 +49,16 @@ def stored_run(top: Path) -> tuple[Said, str]:
 
 
 def built_with(prover: Prover, crate: str, name: str, top: Path) -> Path:
-    """The program, or the tests, of a crate in a copy with an edit of another crate (or of its
-    own), proved over what is built below."""
-    changed = {it for it in building.stands_on([name]) if crate in building.stands_on([it])}
-    sources = {it: top / "crates" / it for it in changed - {name}}
-    prover.words(name, sources)
-    flags = ["--test"] if name in TESTS.values() else []
-    libraries = building.libraries_of(name)
-    return building.linked(
-        top / "crates" / name, libraries, prover.below, *flags, sources=sources
-    )
+    """The program of a crate in a copy with an edit of its own, proved over what is built below; or
+    a crate's tests, compiled without proofs, with an edit of any crate."""
+    if name in TESTS.values():
+        made = top / f"{name}_tests"
+        unproved.made_tests(name, made, top / "room", top)
+        return made
+    if crate != name:
+        raise building.NotBuilt(f"{name} is built over crates that are proved, and {crate} is one")
+    prover.words(name)
+    return building.linked(top / "crates" / name, building.libraries_of(name), prover.below)
 
 
 def word_run(program: Path, words: list[str]) -> tuple[Said, str]:
