@@ -43,8 +43,7 @@ pub(crate) const NONE: Faults<'static> = Faults {
 };
 
 /// Room for all pages of the tables, which an open clears; and a short log, since a sync of a disk
-/// in memory copies it. Without proofs more of either takes most of the tests' time. With 16 frames
-/// in place of 64 `third_refusal_is_the_last` fails.
+/// in memory copies it. Without proofs more of either takes most of the tests' time.
 const SHORT: Options = Options {
     cache_pages: 32,
     spill_pages: 2000,
@@ -124,7 +123,7 @@ fn have_wanted<R: Wait, D: Disk>(files: &Files<Balky<'_, R, D>>) -> bool {
 pub(crate) type Reached = (WorkEnd, bool);
 
 /// Does both over new disks, with so many clients, and a crash between them.
-pub(crate) fn both_with_disks<R: Threads + Wait + Clock + Sync>(
+pub(crate) fn both<R: Threads + Wait + Clock + Sync>(
     rt: &R,
     alloc: Global,
     clients: u16,
@@ -139,16 +138,4 @@ pub(crate) fn both_with_disks<R: Threads + Wait + Clock + Sync>(
     files.db.crash();
     let (second, files) = over(&hurried, alloc, clients, files, works[1]);
     ((first, had_wanted), (second, have_wanted(&files)))
-}
-
-/// What came of both alone.
-pub(crate) fn both<R: Threads + Wait + Clock + Sync>(
-    rt: &R,
-    alloc: Global,
-    clients: u16,
-    faults: Faults<'_>,
-    works: [Work<'_>; 2],
-) -> (WorkEnd, WorkEnd) {
-    let (first, second) = both_with_disks(rt, alloc, clients, faults, works);
-    (first.0, second.0)
 }

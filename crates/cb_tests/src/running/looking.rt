@@ -58,7 +58,8 @@ fn counts_up<R: Threads + Wait + Clock + Sync>(
         opening(ShelfTask::Begin(&counts)),
     ];
     let all = u64::from(clients) * u64::from(jobs);
-    both(rt, alloc, clients, faults, works) == (WorkEnd::Ran(Came::Done(all)), WorkEnd::Well(true))
+    let ((ran, _), (seen, _)) = both(rt, alloc, clients, faults, works);
+    ran == WorkEnd::Ran(Came::Done(all)) && seen == WorkEnd::Well(true)
 }
 
 /// The stored run of `cb_play` does the same over a file.

@@ -274,7 +274,8 @@ pub(crate) fn came_over<R: Threads + Wait + Clock + Sync>(
         looks: None,
     };
     let works = [running(text, &counts), opening(ShelfTask::Begin(&counts))];
-    match both(rt, alloc, plan.clients, faults, works) {
+    let ((ran, _), (seen, _)) = both(rt, alloc, plan.clients, faults, works);
+    match (ran, seen) {
         (WorkEnd::Ran(Came::Exhausted), _) => Came::Exhausted,
         (WorkEnd::Ran(came), WorkEnd::Well(true)) => came,
         (WorkEnd::Nothing, WorkEnd::Well(true)) => Came::Stopped,

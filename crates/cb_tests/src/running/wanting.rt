@@ -1,6 +1,6 @@
 //! A run that ends well or for want of memory. In the gate nothing is refused; `scripts/check
 //! refused run` refuses each growth of it in turn, and each thread.
-use crate::running::disks::{NONE, Reached, both_with_disks};
+use crate::running::disks::{NONE, Reached, both};
 use crate::running::gates::Counts;
 use crate::running::run::{Came, open_plan};
 use crate::running::trials::Trial;
@@ -58,7 +58,7 @@ fn ended<R: Threads + Wait + Clock + Sync>(rt: &R, alloc: Global) -> End {
     let counts = Counts::new(open_plan(2, 2, 0));
     let run = opening(ShelfTask::Try(Trial::Run(&counts)));
     let works = [run, opening(ShelfTask::Begin(&counts))];
-    let (ran, seen) = both_with_disks(rt, alloc, 2, NONE, works);
+    let (ran, seen) = both(rt, alloc, 2, NONE, works);
     end_of(ran, seen)
 }
 
