@@ -11,8 +11,8 @@ said then; without one `times` is left out.
 As many runs go side by side as there are processors, or N. Those that measure, and the wrong
 bodies, which take all processors, come behind the others, each alone. What a run says comes once
 it ends, below a line with its words. The last lines are a table: of each word how many runs passed
-and failed, and how many minutes of the clock they took. It takes some two hours over such a clone,
-and the gate's time more without one. The status is 1 if a run failed.
+and failed, and how many minutes of the clock they took. It takes two to three hours over such a
+clone, and the gate's time more without one. The status is 1 if a run failed.
 """
 import os
 import shutil

@@ -16,9 +16,9 @@ or a word of scripts/check, over a program that is built with the body.
 
 A line for each says what refuses it: the function and its first open goal, or the run that fails.
 The last lines are a table by crate, with processor minutes, and the survivors; the status is 1 if
-there are any, and 2 where a library isn't built. One body takes 4 to 6 processor seconds, and one
-that is tried alone 15 to 30; all take some 150 processor minutes. As many checks run at a time as
-there are processors and 3 GB of free memory for each; `--jobs N` says how many.
+there are any, and 2 where a library isn't built. By what single crates took, all want 400 to 600
+processor minutes. As many checks run at a time as there are processors and 3 GB of free memory for
+each; `--jobs N` says how many.
 """
 import time
 from collections import Counter
