@@ -77,13 +77,14 @@ pub(crate) fn next_batch<'a, R: Wait + Clock, W: Watch>(
     unreachable!()
 }
 
-/// Reports a batch to the station under the lock, and tells all who are to be told of that.
+/// Reports a batch to the station under the lock, and tells all who are to be told of that. A batch
+/// whose report is refused is handed back.
 fn report_under(
     alloc: Global,
     office: &Office,
     station: &mut Station,
     written: Written,
-) -> Result<Reported, AllocError>
+) -> Result<Reported, Written>
     ensures told { IfOk result (λ reported. reported.number ≡ written) }
     ensures reports { OnOk result ((mid : StationState) × ReportsUpTo written station.old mid
         × Tells mid station.new) }
@@ -111,7 +112,11 @@ impl<R: Wait> Reports for Desk<'_, R> {
     ghost tells = { λ desk number reported after. reported.number ≡ number };
 
     fn report(&mut self, alloc: Global, written: Written) -> Result<Reported, AllocError> {
-        report_under(alloc, self.office, &mut self.office.lock(self.rt), written)
+        match report_under(alloc, self.office, &mut self.office.lock(self.rt), written) {
+            Ok(reported) => Ok(reported),
+            // Its batch is held, and is written again.
+            Err(_written) => Err(AllocError),
+        }
     }
 }
 

@@ -1,12 +1,12 @@
 //! A batch that was written is reported, and its commits are forgotten.
-ghost use Rattle.std.specs.Prelude.{◌≡◌, ◌<◌, IfOk, OnErr, OnOk};
+ghost use Rattle.std.specs.Prelude.{◌≡◌, ◌<◌, IfErr, IfOk, OnErr, OnOk};
 ghost use Rattle.cb_station.specs.Reporting.{IsNextOf, ReportsUpTo};
 ghost use Rattle.cb_station.specs.Stations.{IsUnchanged, server_of};
 
 use crate::station::Station;
 use cb_page::CommitNo;
 use cb_shelf::Written;
-use std::alloc::{AllocError, Global};
+use std::alloc::Global;
 
 /// Says that a batch which was written was reported to a station, and forgotten there:
 /// [`Station::report`] alone makes one, and nobody copies it.
@@ -33,12 +33,14 @@ impl Reported {
 }
 
 impl Station {
-    /// Reports the commits of a batch that was written, and forgets them. `AllocError` only if
-    /// memory was refused; nothing has changed then, and they are still to be reported.
-    pub fn report(&mut self, alloc: Global, written: Written) -> Result<Reported, AllocError>
+    /// Reports the commits of a batch that was written, and forgets them. It hands back what it
+    /// took if memory was refused, or if the station has made no commit of that number yet. Nothing
+    /// has changed then, and the batch is still to be reported.
+    pub fn report(&mut self, alloc: Global, written: Written) -> Result<Reported, Written>
         ensures reports { OnOk result (ReportsUpTo written self.old self.new) }
         ensures number { IfOk result (λ reported. reported.number ≡ written) }
         ensures next { IfOk result (λ reported. IsNextOf self.new reported.next) }
+        ensures back { IfErr result (λ back. back ≡ written) }
         ensures unreported { OnErr result ((server_of self.old).flushed < written) }
         ensures unchanged { OnErr result (IsUnchanged self.old self.new) }
     {
@@ -47,7 +49,7 @@ impl Station {
         let _ = self.flushed(alloc, &written);
         let on_disk = self.is_on_disk(number);
         if !on_disk {
-            return Err(AllocError);
+            return Err(written);
         }
         self.forget(written);
         let next = self.next_commit();

@@ -4,7 +4,7 @@ use crate::office::frames::{ask_read, ask_write, commit, insert, no_writes, writ
 use crate::office::stations::greatest;
 use crate::running::trials::{Trial, goes_well};
 use cb_hands::Hand;
-use cb_page::{ClientNo, Limits, PageNo, PageSet, TxnNo};
+use cb_page::{ClientNo, CommitNo, Limits, PageNo, PageSet, TxnNo};
 use cb_shelf::{Shelf, Written};
 use cb_station::{OfficeFault, Station};
 use sqlite::Alter;
@@ -35,14 +35,18 @@ fn is_permitted(
     Ok(true)
 }
 
-/// Commits all the pages; one batch has them. It is reported by what was written.
+/// Commits all the pages; one batch has them. It is reported by what was written, which is handed
+/// back as long as nothing was committed.
 fn commits(
     alloc: Global,
     station: &mut Station,
     hand: &mut Hand,
     txn: TxnNo,
-    first: &Written,
+    first: Written,
 ) -> Result<bool, OfficeFault> {
+    let Err(first) = station.report(alloc, first) else {
+        return Ok(false);
+    };
     let mut reads = PageSet::new(alloc, 4096)?;
     let mut writes = no_writes(alloc);
     for number in 0..WRITTEN {
@@ -58,13 +62,15 @@ fn commits(
         Some(batch) => batch.pages().len(),
         None => 0,
     };
-    station.flushed(alloc, first)?;
-    let reported = first.number() == number && station.batch(alloc)?.is_none();
-    Ok(pages == WRITTEN as usize && reported)
+    let Ok(reported) = station.report(alloc, first) else {
+        return Ok(false);
+    };
+    let is_reported = reported.number() == number && reported.next() == Some(CommitNo::new(2));
+    Ok(pages == WRITTEN as usize && is_reported && station.batch(alloc)?.is_none())
 }
 
 /// The last client works alone, after all others have joined.
-fn last_works(alloc: Global, station: &mut Station, first: &Written) -> Result<bool, OfficeFault> {
+fn last_works(alloc: Global, station: &mut Station, first: Written) -> Result<bool, OfficeFault> {
     for client in 0..31u16 {
         station.join(alloc, ClientNo::new(client))?.abandon();
     }
@@ -78,7 +84,7 @@ fn works(
     alloc: Global,
     station: &mut Station,
     hand: &mut Hand,
-    first: &Written,
+    first: Written,
 ) -> Result<bool, OfficeFault> {
     let txn = TxnNo::new(1);
     let _welcome = station.collect(hand)?;
@@ -99,7 +105,7 @@ pub(crate) fn works_at_the_greatest<S: Alter>(
         return false;
     };
     match greatest(alloc) {
-        Some(mut station) => last_works(alloc, &mut station, &first).unwrap_or(false),
+        Some(mut station) => last_works(alloc, &mut station, first).unwrap_or(false),
         None => false,
     }
 }
