@@ -9,8 +9,9 @@ from __future__ import annotations
 import sqlite3
 from pathlib import Path
 
+from checks.frames import ASK_READ
 from checks.serve_engines import InFile, said, serve_one
-from checks.serve_input import CLIENTS, PAGES, Scene
+from checks.serve_input import CLIENTS, PAGES, Scene, of_read
 from checks.trying import opened
 
 SIZE = 64
@@ -112,24 +113,29 @@ def rows_in(store: Path) -> dict[str, list[tuple]]:
                 for (name,) in names}
 
 
-def served_over(room: Path, server: InFile, text: str, size: int) -> tuple[tuple, object]:
-    """How a server ends over a file with these tables, and the rows that it leaves."""
+def served_over(room: Path, server: InFile, text: str, size: int, unread: int) -> tuple:
+    """How a server ends over a file with these tables, and the rows that it leaves. So many frames
+    come first that can't be read."""
     scene = Scene(room, (), size)
     scene.incarnation = UNKEPT_FLOOR + 1
     with opened(scene.store) as tables:
         tables.executescript(text)
-    return serve_one(scene, server, scene.given(COMMITS // CLIENTS)), rows_in(scene.store)
+    given = unread * scene.say(ASK_READ, 0, of_read(1, PAGES)) + scene.given(COMMITS // CLIENTS)
+    return serve_one(scene, server, given), rows_in(scene.store)
 
 
-def differ(room: Path, servers: list[InFile], text: str, wanted: str, size: int = SIZE) -> str:
+def differ(
+    room: Path, servers: list[InFile], text: str, wanted: str, size: int = SIZE, unread: int = 0,
+) -> str:
     """What differs over files with these tables, or isn't said where a refusal is wanted."""
-    (one, rows), (other, others) = (served_over(room, it, text, size) for it in servers)
+    (one, rows), (other, others) = (served_over(room, it, text, size, unread) for it in servers)
     if one != other:
         return f"{said(one)}; {said(other)}"
     if rows != others:
         return f"{str(rows)[:200]}; {str(others)[:200]}"
     status, out, line = one
-    right = (3, False, f"store: {wanted}\n".encode()) if wanted else (0, True, b"")
+    passed = f"passed over {unread}\n" if unread else ""
+    right = (3, False, f"{passed}store: {wanted}\n".encode()) if wanted else (0, True, b"")
     return "" if (status, bool(out), line) == right else said(one)
 
 
@@ -139,6 +145,8 @@ def tried(tries, room: Path, play: Path, serve: Path) -> None:
     servers = [InFile("cb_play", play, "serve"), InFile("SQLite", serve)]
     cases = [(name, text, "") for name, text in TAKEN.items()]
     cases += [(name, text, "Exhausted") for name, text in SPENT.items()]
+    cases += [(f"{name}, and two frames that can't be read", text, "Exhausted", SIZE, 2)
+              for name, text in SPENT.items()]
     cases += [(name, text, "Shape") for name, text in WRONG.items()]
     cases += [("older, pages of a whole part", older_of(PART), "", PART)]
     cases += [("older, pages of more than a part", older_of(PART + 16), "Shape", PART + 16)]

@@ -14,10 +14,8 @@ use Rattle.cb_commit.specs.Stores.{StoreState}
 use Rattle.cb_page.specs.Bounds.{Bounds}
 use Rattle.cb_serve.specs.Announcing.{StaysUnannounced, announcement}
 use Rattle.cb_serve.specs.Endings.{PrintsEnding, becomes_of_shelf}
-use Rattle.cb_serve.specs.Serving.{IsServed}
+use Rattle.cb_serve.specs.Serving.{IsServed, refused}
 use Rattle.cb_serve.specs.declared.fault.RoundFault.{RoundFault}
-use Rattle.cb_serve.specs.declared.fault.ServeFault.{ServeFault}
-use Rattle.cb_serve.specs.declared.fault.ServeFault.TheVariants as fault
 use Rattle.cb_serve.specs.declared.serving.Served.{Served}
 use Rattle.cb_shelf.specs.LifeRows.{LifeState}
 use Rattle.cb_shelf.specs.Inside.{IsSame}
@@ -36,17 +34,17 @@ TellsLife false floor old_out new_out = new_out ≡ old_out
 module _ {S : Type 0} (g : Ghosts S) (limits : Bounds) (announces : Bool) where
   -- the life was told, if it is to be, and the frames were served over the store; or it wasn't told
   -- whole, no frame was read, and the tables are as before
-  abbrev pub ServesLife : {E : Type 0} → StoreState → LifeState → Result E ServeFault
-      → (old new : Held S) → (old_in new_in old_out new_out : Option (List ℕ)) → Type 0
-  ServesLife store life ending old new old_in new_in old_out new_out =
+  abbrev pub ServesLife : StoreState → LifeState → Served → (old new : Held S)
+      → (old_in new_in old_out new_out : Option (List ℕ)) → Type 0
+  ServesLife store life served old new old_in new_in old_out new_out =
       ((told : Option (List ℕ)) × TellsLife announces life.floor old_out told
-      × IsServed g limits store life ending old new old_in new_in told new_out)
-      ⊎ ((f : RoundFault) × (ending ≡ Err (fault.Round f))
+      × IsServed g limits store life served old new old_in new_in told new_out)
+      ⊎ ((f : RoundFault) × (served ≡ refused f)
       × StaysUnannounced f life.floor old_out new_out × (new_in ≡ old_in) × (new ≡ old))
 
   -- A life of the server began over the tables, the store in them was read, and the frames were
   -- served over it in that life.
-  pub record ServesStore {E : Type 0} (ending : Result E ServeFault) (old new : Held S)
+  pub record ServesStore (served : Served) (old new : Held S)
       (old_in new_in old_out new_out : Option (List ℕ)) : Type 0 where
     pub life : LifeState
     pub begun : Held S
@@ -54,7 +52,7 @@ module _ {S : Type 0} (g : Ghosts S) (limits : Bounds) (announces : Bool) where
     pub store : StoreState
     pub tables : Held S
     pub reads : ReadsStore g limits store begun tables
-    pub serves : ServesLife store life ending tables new old_in new_in old_out new_out
+    pub serves : ServesLife store life served tables new old_in new_in old_out new_out
 
   -- A life began over the tables, and else they stayed.
   pub record BeginsAlone (old new : Held S) : Type 0 where
@@ -66,35 +64,35 @@ module _ {S : Type 0} (g : Ghosts S) (limits : Bounds) (announces : Bool) where
   -- a store that came so far was refused, and its very fault is told: nothing was read or put out,
   -- and on a clean disk the database is as before, as long as the connection is open; but for a
   -- life that may have begun
-  abbrev pub IsRefused : {E : Type 0} → Reach → Result E ServeFault → (old new : Held S)
+  abbrev pub IsRefused : Reach → Served → (old new : Held S)
       → (old_in new_in old_out new_out : Option (List ℕ)) → Type 0
-  IsRefused (reach.Refused e) ending old new old_in new_in old_out new_out =
-      (ending ≡ Err (fault.Round (becomes_of_shelf e))) × (new_in ≡ old_in) × (new_out ≡ old_out)
+  IsRefused (reach.Refused e) served old new old_in new_in old_out new_out =
+      (served ≡ refused (becomes_of_shelf e)) × (new_in ≡ old_in) × (new_out ≡ old_out)
       × ((HasCleanDisk (state g new) → IsSame (state g old) (state g new)) ⊎ BeginsAlone old new)
-  IsRefused _ ending old new old_in new_in old_out new_out = ⊥
+  IsRefused _ served old new old_in new_in old_out new_out = ⊥
 
   -- what came of the tables of a shelf, whose store came so far: it was read, or refused
-  abbrev pub ServesTables : {E : Type 0} → Reach → Result E ServeFault → (old new : Held S)
+  abbrev pub ServesTables : Reach → Served → (old new : Held S)
       → (old_in new_in old_out new_out : Option (List ℕ)) → Type 0
-  ServesTables reach.Read ending old new old_in new_in old_out new_out =
-      ServesStore ending old new old_in new_in old_out new_out
-  ServesTables came ending old new old_in new_in old_out new_out =
-      IsRefused came ending old new old_in new_in old_out new_out
+  ServesTables reach.Read served old new old_in new_in old_out new_out =
+      ServesStore served old new old_in new_in old_out new_out
+  ServesTables came served old new old_in new_in old_out new_out =
+      IsRefused came served old new old_in new_in old_out new_out
 
   -- The database was opened as a shelf, and it was served over its tables; or it was refused.
-  abbrev pub ServesDatabase : {E : Type 0} → Reach → Result E ServeFault → (old new : Held S)
+  abbrev pub ServesDatabase : Reach → Served → (old new : Held S)
       → (old_in new_in old_out new_out : Option (List ℕ)) → Type 0
-  ServesDatabase came ending old new old_in new_in old_out new_out =
+  ServesDatabase came served old new old_in new_in old_out new_out =
       ((opened : Held S) × OpensShelf g limits old opened
-      × ServesTables came ending opened new old_in new_in old_out new_out)
-      ⊎ IsRefused came ending old new old_in new_in old_out new_out
+      × ServesTables came served opened new old_in new_in old_out new_out)
+      ⊎ IsRefused came served old new old_in new_in old_out new_out
 
 -- How a service ended over a store that came so far: one that was refused, when it was opened, laid
--- out or read, by its very fault.
-abbrev pub TellsReached : {E : Type 0} → Reach → Result E ServeFault → Type 0
-TellsReached (reach.Refused e) ending = ending ≡ Err (fault.Round (becomes_of_shelf e))
-TellsReached reach.Read ending = Unit {0}
-TellsReached _ ending = ⊥
+-- out or read, by its very fault, with nothing passed over.
+abbrev pub TellsReached : Reach → Served → Type 0
+TellsReached (reach.Refused e) served = served ≡ refused (becomes_of_shelf e)
+TellsReached reach.Read served = Unit {0}
+TellsReached _ served = ⊥
 
 -- The file of that path was opened as the store, and how the service over it ended is said.
 pub record PrintsServed (path : List ℕ) (ended : StoreEnd) (old_err new_err : Option (List ℕ))
@@ -103,7 +101,7 @@ pub record PrintsServed (path : List ℕ) (ended : StoreEnd) (old_err new_err : 
   pub opened : ended.file ≡ Some file
   pub of_path : file.path.now ≡ path
   pub served : Served
-  pub tells : TellsReached file.reach served.ending
+  pub tells : TellsReached file.reach served
   pub prints : PrintsEnding served.passed_over served.ending ended.status old_err new_err
 
 -- Of a configuration's text: where it means settings, how the service over the store in the file of

@@ -62,7 +62,7 @@ fn serve_file<'a, I: Read, O: Write>(
     out: &mut O,
 ) -> (StoreFile<'a>, Served)
     ensures path { result.0.path.now ≡ store.now }
-    ensures tells { TellsReached result.0.reach result.1.ending }
+    ensures tells { TellsReached result.0.reach result.1 }
 {
     let (mut file, opened) = StoreFile::open(rt, store);
     let conn = match opened {
@@ -86,9 +86,9 @@ fn serve_over<S: Alter, I: Read, O: Write>(
     out: &mut O,
 ) -> (Served, Connection<S>)
     ensures path { file.new.path.now ≡ file.old.path.now }
-    ensures tells { TellsReached file.new.reach result.0.ending }
+    ensures tells { TellsReached file.new.reach result.0 }
     ensures serves { ServesDatabase S.Store config.now.limits announces file.new.reach
-        result.0.ending conn result.1
+        result.0 conn result.1
         (I.remaining input.old) (I.remaining input.new)
         (O.contents out.old) (O.contents out.new) }
 {
@@ -113,9 +113,9 @@ fn serve_in<S: Alter, I: Read, O: Write>(
 ) -> Served
     requires { shelf.old.limits ≡ config.now.limits }
     ensures path { file.new.path.now ≡ file.old.path.now }
-    ensures tells { TellsReached file.new.reach result.ending }
+    ensures tells { TellsReached file.new.reach result }
     ensures serves { ServesTables S.Store config.now.limits announces file.new.reach
-        result.ending shelf.old.conn shelf.new.conn
+        result shelf.old.conn shelf.new.conn
         (I.remaining input.old) (I.remaining input.new)
         (O.contents out.old) (O.contents out.new) }
 {
@@ -146,7 +146,7 @@ fn serve_life<S: Alter, I: Read, O: Write>(
     requires shelf { shelf.old.limits ≡ limits.now }
     requires store { IsOf limits.now store }
     requires holds { HoldsStore S.Store store shelf.old.conn }
-    ensures { ServesLife S.Store limits.now announces store life result.ending
+    ensures { ServesLife S.Store limits.now announces store life result
         shelf.old.conn shelf.new.conn
         (I.remaining input.old) (I.remaining input.new)
         (O.contents out.old) (O.contents out.new) }

@@ -1,5 +1,5 @@
 -- Pieces, one after another.
-use Rattle.std.proofs.Common.{◌≡◌, ◌∙◌, ℕ, zero, suc, ◌+◌, ◌<◌, ◌≤◌, ◌&&◌, nat_le, Bool, if◌then◌else◌, List, [], ◌∷◌, ◌++◌, refl, sym, ap, subst, take, drop, length, length-drop, append_assoc, arith, true, false, true≢false}
+use Rattle.std.proofs.Common.{◌≡◌, ◌∙◌, ℕ, zero, suc, ◌+◌, ◌-◌, ◌^◌, ◌<◌, ◌≤◌, min, ◌&&◌, nat_le, Bool, if◌then◌else◌, List, [], ◌∷◌, ◌++◌, refl, sym, ap, subst, take, drop, length, length-drop, append_assoc, arith, true, false, true≢false}
 use Rattle.std.proofs.Math.Seq.{take-add}
 use Rattle.std.proofs.lemmas.Bool.Decides.{nat_tests}
 use Rattle.std.proofs.lemmas.Grind.{flat_map-append}
@@ -20,6 +20,7 @@ use Rattle.cb_serve.proofs.Inputs.{all_append, answers_nothing, answers_then}
 use Rattle.cb_serve.specs.Answering.{Answers, TakesPieces, heard, inputs_in, inputs_of}
 use Rattle.cb_serve.specs.Endings.{becomes_of_server}
 use Rattle.cb_serve.specs.Fronts.{IsFront}
+use Rattle.cb_serve.specs.Rounds.{counted_on}
 use Rattle.cb_serve.specs.Steps.{RefusesFrame, RefusesFront, StopsTaking, TakesAll, TakesFront}
 use Rattle.cb_serve.specs.Streams.{IsNoFrame, IsPart, IsPiece, Piece, asks_again, bytes_of, comes, count_passed, greets_from, is_hello, let_go, passed_over}
 use Rattle.cb_serve.specs.declared.fault.RoundFault.{RoundFault}
@@ -45,13 +46,6 @@ takes_then old mid new bytes xs ys used n first more within a b = record {
 pub passed_append : (xs ys : List Piece) → count_passed (xs ++ ys) ≡ count_passed xs + count_passed ys
 passed_append [] ys = omega arith
 passed_append (x ∷ xs) ys = let ih : count_passed (xs ++ ys) ≡ count_passed xs + count_passed ys = passed_append xs ys in omega arith
-
--- one piece is passed over at most
-one_passed : (piece : Piece) → count_passed (piece ∷ []) ≤ 1
-one_passed (comes frame bytes) = omega arith
-one_passed asks_again = omega arith
-one_passed (passed_over bytes) = omega arith
-one_passed (let_go frame bytes) = omega arith
 
 -- a frame has bytes
 frame_long : (l : Bounds) (f : Frame) (bytes : List ℕ) (used : ℕ) → IsFrameInSome l f (take used bytes) → 0 < used
@@ -138,49 +132,48 @@ front_refused old l bytes frame used (round.Input r) same is refuses = absurd re
 front_refused old l bytes frame used (round.Output e) same is refuses = absurd refuses
 
 -- How far a loop over the pieces of some bytes has come.
-pub record SoFar (old : ServerValue) (bytes before after : List ℕ) (used count : ℕ) (new : ServerValue) : Type 0 where
+pub record SoFar (old : ServerValue) (bytes before after : List ℕ) (used passed_before passed : ℕ) (new : ServerValue) : Type 0 where
   pub pieces : List Piece
   pub more : List ℕ
   pub said : after ≡ before ++ more
   pub takes : TakesPieces old bytes pieces used more new
-  pub count_is : count ≡ count_passed pieces
-  pub few : count ≤ used
+  pub count_is : passed ≡ counted_on passed_before (count_passed pieces)
   pub within : used ≤ length bytes
 
-pub so_far_nothing : (old : ServerValue) (bytes before : List ℕ) → SoFar old bytes before before 0 0 old
-so_far_nothing old bytes before = record {
+pub so_far_nothing : (old : ServerValue) (bytes before : List ℕ) (passed : ℕ) → SoFar old bytes before before 0 passed passed old
+so_far_nothing old bytes before passed = record {
   pieces = [];
   more = [];
   said = sym (append-nil before);
   takes = takes_nothing old bytes;
   count_is = refl;
-  few = omega arith;
   within = omega arith;
 }
 
--- what a piece more has of bytes, and how often it is passed over
-pub step_within : (mid new : ServerValue) (bytes more : List ℕ) (used n count : ℕ) → used ≤ length bytes → TakesFront mid (drop used bytes) (step.Taken n count) more new
-    → (used + n ≤ length bytes) × (count ≤ n) × (0 < n)
-step_within mid new bytes more used n count within t =
-    let left = t.2.within in let one = one_passed t.1 in let is = t.3 in let some = t.0 in
-    (omega (arith, length-drop used bytes), omega arith, some)
+-- a count that went on goes on
+counts_more : (before n more all now : ℕ) → now ≤ 2 ^ 64 - 1 → now ≡ counted_on before n → all ≡ n + more → min (now + more) (2 ^ 64 - 1) ≡ counted_on before all
+counts_more before zero more zero now fits is sum = omega arith
+counts_more before zero more (suc all) now fits is sum = omega arith
+counts_more before (suc n) more zero now fits is sum = omega arith
+counts_more before (suc n) more (suc all) now fits is sum = omega arith
 
-pub so_far_more : (old mid new : ServerValue) (bytes before after later more : List ℕ) (used count n passes : ℕ) → SoFar old bytes before after used count mid
-    → later ≡ after ++ more → TakesFront mid (drop used bytes) (step.Taken n passes) more new → SoFar old bytes before later (used + n) (count + passes) new
-so_far_more old mid new bytes before after later more used count n passes a said t = record {
+pub so_far_more : (old mid new : ServerValue) (bytes before after later more : List ℕ) (used n passed_before passed passes now : ℕ) → SoFar old bytes before after used passed_before passed mid
+    → later ≡ after ++ more → passed ≤ 2 ^ 64 - 1 → now ≡ min (passed + passes) (2 ^ 64 - 1) → TakesFront mid (drop used bytes) (step.Taken n passes) more new
+    → SoFar old bytes before later (used + n) passed_before now new
+so_far_more old mid new bytes before after later more used n passed_before passed passes now a said fits counted t = record {
   pieces = a.pieces ++ t.1 ∷ [];
   more = a.more ++ more;
   said = said ∙ ap (λ (k : List ℕ). k ++ more) a.said ∙ append_assoc before a.more more;
   takes = takes_then old mid new bytes a.pieces (t.1 ∷ []) used n a.more more a.within a.takes t.2;
-  count_is = let is = t.3 in let was = a.count_is in omega (arith, passed_append a.pieces (t.1 ∷ []));
-  few = let w = step_within mid new bytes more used n passes a.within t in let few = a.few in omega arith;
-  within = (step_within mid new bytes more used n passes a.within t).0;
+  count_is = counted ∙ ap (λ (k : ℕ). min (passed + k) (2 ^ 64 - 1)) t.3 ∙ counts_more passed_before (count_passed a.pieces) (count_passed (t.1 ∷ [])) (count_passed (a.pieces ++ t.1 ∷ [])) passed fits a.count_is
+      (passed_append a.pieces (t.1 ∷ []));
+  within = let left = t.2.within in let before = a.within in omega (arith, length-drop used bytes);
 }
 
-pub so_far_part : (old mid new : ServerValue) (bytes before after later more : List ℕ) (used count : ℕ) → SoFar old bytes before after used count mid
+pub so_far_part : (old mid new : ServerValue) (bytes before after later more : List ℕ) (used passed_before passed : ℕ) → SoFar old bytes before after used passed_before passed mid
     → later ≡ after ++ more → TakesFront mid (drop used bytes) step.Part more new
-    → TakesAll old bytes before (record { used = used; passed_over = count; ends = false }) later new
-so_far_part old mid new bytes before after later more used count a said t = record {
+    → TakesAll old bytes before passed_before (record { used = used; ends = false }) later passed new
+so_far_part old mid new bytes before after later more used passed_before passed a said t = record {
   pieces = a.pieces;
   more = a.more;
   said = said ∙ ap (λ (k : List ℕ). after ++ k) t.1 ∙ append-nil after ∙ a.said;
@@ -190,10 +183,10 @@ so_far_part old mid new bytes before after later more used count a said t = reco
   no_frame = λ e. absurd cc;
 }
 
-pub so_far_no_frame : (old mid new : ServerValue) (bytes before after later more : List ℕ) (used count : ℕ) → SoFar old bytes before after used count mid
+pub so_far_no_frame : (old mid new : ServerValue) (bytes before after later more : List ℕ) (used passed_before passed : ℕ) → SoFar old bytes before after used passed_before passed mid
     → later ≡ after ++ more → TakesFront mid (drop used bytes) step.NoFrame more new
-    → TakesAll old bytes before (record { used = used; passed_over = count; ends = true }) later new
-so_far_no_frame old mid new bytes before after later more used count a said t = record {
+    → TakesAll old bytes before passed_before (record { used = used; ends = true }) later passed new
+so_far_no_frame old mid new bytes before after later more used passed_before passed a said t = record {
   pieces = a.pieces;
   more = a.more;
   said = said ∙ ap (λ (k : List ℕ). after ++ k) t.1 ∙ append-nil after ∙ a.said;
@@ -203,6 +196,7 @@ so_far_no_frame old mid new bytes before after later more used count a said t = 
   no_frame = λ e. subst (λ (l : Bounds). IsNoFrame l (drop used bytes)) a.takes.answers.limits t.0;
 }
 
-pub so_far_stops : (old mid : ServerValue) (bytes before after : List ℕ) (used count : ℕ) (f : RoundFault) → SoFar old bytes before after used count mid
-    → RefusesFront mid (drop used bytes) f → StopsTaking old bytes f
-so_far_stops old mid bytes before after used count f a refuses = record { pieces = a.pieces; used = used; said = a.more; mid = mid; takes = a.takes; refuses = refuses }
+pub so_far_stops : (old mid : ServerValue) (bytes before after : List ℕ) (used passed_before passed : ℕ) (f : RoundFault) → SoFar old bytes before after used passed_before passed mid
+    → RefusesFront mid (drop used bytes) f → StopsTaking old bytes passed_before passed f
+so_far_stops old mid bytes before after used passed_before passed f a refuses =
+    record { pieces = a.pieces; used = used; said = a.more; mid = mid; takes = a.takes; count = a.count_is; refuses = refuses }

@@ -40,25 +40,27 @@ use Rattle.cb_serve.specs.declared.round.RoundEnd.TheVariants as end
 use Rattle.cb_serve.specs.declared.taking.Taken.{Taken}
 
 -- some pieces were taken, and nothing was put out
-pub stops_taking : (f : RoundFault) (old : ServerValue) (bytes : List ℕ) (out : Option (List ℕ)) → StopsTaking old bytes f → StopsAnswering f old bytes out out
-stops_taking f old bytes out t = record {
+pub stops_taking : (f : RoundFault) (old : ServerValue) (buffers after : Buffers) (out : Option (List ℕ)) → StopsTaking old buffers.pending.items buffers.passed_over after.passed_over f
+    → StopsAnswering f old buffers after out out
+stops_taking f old buffers after out t = record {
   pieces = t.pieces;
-  rest = drop t.used bytes;
+  rest = drop t.used buffers.pending.items;
   answers = t.said;
   are = t.takes.are;
-  cut = sym (take-append-drop t.used bytes) ∙ ap (λ (k : List ℕ). k ++ drop t.used bytes) t.takes.cut;
+  cut = sym (take-append-drop t.used buffers.pending.items) ∙ ap (λ (k : List ℕ). k ++ drop t.used buffers.pending.items) t.takes.cut;
+  passed = t.count;
   says = t.takes.answers.says;
   put = [];
   puts = Appends-nil out;
   told = told f t.refuses;
 }
   where
-    told : (k : RoundFault) → RefusesFront t.mid (drop t.used bytes) k
-        → PutsAnswers k old.limits [] t.said (after_inputs (server_of old) (inputs_in t.pieces)) (drop t.used bytes)
+    told : (k : RoundFault) → RefusesFront t.mid (drop t.used buffers.pending.items) k
+        → PutsAnswers k old.limits [] t.said (after_inputs (server_of old) (inputs_in t.pieces)) (drop t.used buffers.pending.items)
     told round.Exhausted lacks = (
       refl,
-      subst (λ (s : Server). LacksNumber old.limits s (drop t.used bytes)) t.takes.answers.becomes
-          (subst (λ (l : Bounds). LacksNumber l (server_of t.mid) (drop t.used bytes)) t.takes.answers.limits lacks),
+      subst (λ (s : Server). LacksNumber old.limits s (drop t.used buffers.pending.items)) t.takes.answers.becomes
+          (subst (λ (l : Bounds). LacksNumber l (server_of t.mid) (drop t.used buffers.pending.items)) t.takes.answers.limits lacks),
     )
     told round.Memory known = refl
     told round.Shape wrong = absurd wrong
@@ -67,14 +69,15 @@ stops_taking f old bytes out t = record {
     told (round.Output e) wrong = absurd wrong
 
 -- all whole pieces were taken, and a front of what is said to them was put out
-pub stops_at_answers : (f : RoundFault) (old new : ServerValue) (bytes said after : List ℕ) (taken : Taken) (n : ℕ) (out out2 : Option (List ℕ)) → IsOfOutput f → said ≡ []
-    → TakesAll old bytes said taken after new → Appends out out2 (take n after) → StopsAnswering f old bytes out out2
-stops_at_answers f old new bytes said after taken n out out2 of_output empty t puts = record {
+pub stops_at_answers : (f : RoundFault) (old new : ServerValue) (buffers later : Buffers) (said after : List ℕ) (taken : Taken) (n : ℕ) (out out2 : Option (List ℕ)) → IsOfOutput f → said ≡ []
+    → TakesAll old buffers.pending.items said buffers.passed_over taken after later.passed_over new → Appends out out2 (take n after) → StopsAnswering f old buffers later out out2
+stops_at_answers f old new buffers later said after taken n out out2 of_output empty t puts = record {
   pieces = t.pieces;
-  rest = drop taken.used bytes;
+  rest = drop taken.used buffers.pending.items;
   answers = t.more;
   are = t.takes.are;
-  cut = sym (take-append-drop taken.used bytes) ∙ ap (λ (k : List ℕ). k ++ drop taken.used bytes) t.takes.cut;
+  cut = sym (take-append-drop taken.used buffers.pending.items) ∙ ap (λ (k : List ℕ). k ++ drop taken.used buffers.pending.items) t.takes.cut;
+  passed = t.count;
   says = t.takes.answers.says;
   put = take n t.more;
   puts = subst (λ (k : List ℕ). Appends out out2 (take n k)) (t.said ∙ ap (λ (k : List ℕ). k ++ t.more) empty) puts;
@@ -82,7 +85,7 @@ stops_at_answers f old new bytes said after taken n out out2 of_output empty t p
 }
   where
     told : (k : RoundFault) → IsOfOutput k
-        → PutsAnswers k old.limits (take n t.more) t.more (after_inputs (server_of old) (inputs_in t.pieces)) (drop taken.used bytes)
+        → PutsAnswers k old.limits (take n t.more) t.more (after_inputs (server_of old) (inputs_in t.pieces)) (drop taken.used buffers.pending.items)
     told (round.Output e) known = (n, refl)
     told round.Shape wrong = absurd wrong
     told round.Store wrong = absurd wrong
@@ -176,13 +179,14 @@ module _ {S : Type 0} (g : Ghosts S) where
       )
 
   -- nothing more was done
-  pub stopped_still : (limits : Bounds) (f : RoundFault) (old : Standing S) (read : List ℕ) → StopsReading f read → IsPart limits old.waiting → IsStopped g limits f read [] old old.tables
+  pub stopped_still : (limits : Bounds) (f : RoundFault) (old : Standing S) (read : List ℕ) → StopsReading f read → IsPart limits old.waiting → IsStopped g limits f read [] old.passed old old.tables
   stopped_still limits f old read why begins = record {
     begins = begins;
     pieces = [];
     rest = old.waiting ++ read;
     are = tt;
     cut = refl;
+    counted = refl;
     next = tt;
     batch = None;
     answers = [];
@@ -204,14 +208,15 @@ module _ {S : Type 0} (g : Ghosts S) where
 
   -- a read failed
   pub stops_reading : (limits : Bounds) (f : RoundFault) (old : Standing S) (life : LifeState) (read : List ℕ) (in1 in2 out : Option (List ℕ)) → StopsReading f read → Consumes in1 in2 read
-      → StopsRound g limits f old life old.tables in1 in2 out out
+      → StopsRound g limits f old life old.passed old.tables in1 in2 out out
   stops_reading limits f old life read in1 in2 out why consumes =
       record { read = read; reads = consumes; put = []; puts = Appends-nil out; cause = cause_of_reading f read why; stopped = λ begins. inl (old.tables, life, had refl refl, stopped_still limits f old read why begins) }
 
   -- some answers were put out
-  pub stops_answering : (limits : Bounds) (f : RoundFault) (old : ServerValue) (buffers : Buffers) (first tables : Held S) (life new_life : LifeState) (read bytes : List ℕ) (in1 in2 out1 out2 : Option (List ℕ)) → MakesRoom g life new_life first tables → old.limits ≡ limits
-      → bytes ≡ buffers.pending.items ++ read → Consumes in1 in2 read → HasCause f read → StopsAnswering f old bytes out1 out2 → StopsRound g limits f (standing g old buffers first) life tables in1 in2 out1 out2
-  stops_answering limits f old buffers first tables life new_life read bytes in1 in2 out1 out2 room same reads consumes cause a = record {
+  pub stops_answering : (limits : Bounds) (f : RoundFault) (old : ServerValue) (buffers read_buffers after : Buffers) (first tables : Held S) (life new_life : LifeState) (read : List ℕ) (in1 in2 out1 out2 : Option (List ℕ))
+      → MakesRoom g life new_life first tables → old.limits ≡ limits → read_buffers.pending.items ≡ buffers.pending.items ++ read → read_buffers.passed_over ≡ buffers.passed_over
+      → Consumes in1 in2 read → HasCause f read → StopsAnswering f old read_buffers after out1 out2 → StopsRound g limits f (standing g old buffers first) life after.passed_over tables in1 in2 out1 out2
+  stops_answering limits f old buffers read_buffers after first tables life new_life read in1 in2 out1 out2 room same reads counts consumes cause a = record {
     read = read;
     reads = consumes;
     put = a.put;
@@ -227,6 +232,7 @@ module _ {S : Type 0} (g : Ghosts S) where
         rest = a.rest;
         are = subst (λ (l : Bounds). AllByRecursion (IsPiece l) a.pieces) same a.are;
         cut = sym reads ∙ a.cut;
+        counted = subst (λ (n : ℕ). after.passed_over ≡ counted_on n (count_passed a.pieces)) counts a.passed;
         next = tt;
         batch = None;
         answers = a.answers;
@@ -254,9 +260,10 @@ module _ {S : Type 0} (g : Ghosts S) where
       told (round.Input r) wrong = absurd wrong
 
   -- there was no room for whom the server knew
-  pub stops_without_room : (limits : Bounds) (f : RoundFault) (old : ServerValue) (buffers : Buffers) (first tables : Held S) (life : LifeState) (read bytes : List ℕ) (in1 in2 out1 out2 : Option (List ℕ)) → old.limits ≡ limits
-      → bytes ≡ buffers.pending.items ++ read → Consumes in1 in2 read → HasCause f read → FindsNoRoom g f old bytes life first tables out1 out2 → StopsRound g limits f (standing g old buffers first) life tables in1 in2 out1 out2
-  stops_without_room limits f old buffers first tables life read bytes in1 in2 out1 out2 same reads consumes cause a = record {
+  pub stops_without_room : (limits : Bounds) (f : RoundFault) (old : ServerValue) (buffers read_buffers after : Buffers) (first tables : Held S) (life : LifeState) (read : List ℕ) (in1 in2 out1 out2 : Option (List ℕ)) → old.limits ≡ limits
+      → read_buffers.pending.items ≡ buffers.pending.items ++ read → read_buffers.passed_over ≡ buffers.passed_over → Consumes in1 in2 read → HasCause f read → FindsNoRoom g f old read_buffers after life first tables out1 out2
+      → StopsRound g limits f (standing g old buffers first) life after.passed_over tables in1 in2 out1 out2
+  stops_without_room limits f old buffers read_buffers after first tables life read in1 in2 out1 out2 same reads counts consumes cause a = record {
     read = read;
     reads = consumes;
     put = [];
@@ -268,6 +275,7 @@ module _ {S : Type 0} (g : Ghosts S) where
       rest = a.rest;
       are = subst (λ (l : Bounds). AllByRecursion (IsPiece l) a.pieces) same a.are;
       cut = sym reads ∙ a.cut;
+      counted = subst (λ (n : ℕ). after.passed_over ≡ counted_on n (count_passed a.pieces)) counts a.passed;
       unsaid = refl;
       told = a.told;
       crash = a.crash;
@@ -275,19 +283,20 @@ module _ {S : Type 0} (g : Ghosts S) where
   }
 
   -- whichever of both it was
-  pub stops_within : (limits : Bounds) (f : RoundFault) (old : ServerValue) (buffers : Buffers) (first tables : Held S) (life : LifeState) (read bytes : List ℕ) (in1 in2 out1 out2 : Option (List ℕ)) → old.limits ≡ limits
-      → bytes ≡ buffers.pending.items ++ read → Consumes in1 in2 read → HasCause f read → StopsWithin g f old bytes life first tables out1 out2 → StopsRound g limits f (standing g old buffers first) life tables in1 in2 out1 out2
-  stops_within limits f old buffers first tables life read bytes in1 in2 out1 out2 same reads consumes cause (inl a) =
-      stops_answering limits f old buffers first tables life a.0 read bytes in1 in2 out1 out2 a.1 same reads consumes cause a.2
-  stops_within limits f old buffers first tables life read bytes in1 in2 out1 out2 same reads consumes cause (inr a) =
-      stops_without_room limits f old buffers first tables life read bytes in1 in2 out1 out2 same reads consumes cause a
+  pub stops_within : (limits : Bounds) (f : RoundFault) (old : ServerValue) (buffers read_buffers after : Buffers) (first tables : Held S) (life : LifeState) (read : List ℕ) (in1 in2 out1 out2 : Option (List ℕ)) → old.limits ≡ limits
+      → read_buffers.pending.items ≡ buffers.pending.items ++ read → read_buffers.passed_over ≡ buffers.passed_over → Consumes in1 in2 read → HasCause f read → StopsWithin g f old read_buffers after life first tables out1 out2
+      → StopsRound g limits f (standing g old buffers first) life after.passed_over tables in1 in2 out1 out2
+  stops_within limits f old buffers read_buffers after first tables life read in1 in2 out1 out2 same reads counts consumes cause (inl a) =
+      stops_answering limits f old buffers read_buffers after first tables life a.0 read in1 in2 out1 out2 a.1 same reads counts consumes cause a.2
+  stops_within limits f old buffers read_buffers after first tables life read in1 in2 out1 out2 same reads counts consumes cause (inr a) =
+      stops_without_room limits f old buffers read_buffers after first tables life read in1 in2 out1 out2 same reads counts consumes cause a
 
   -- the answers were put out, and some of the Dones, or none
   pub stops_committing : (limits : Bounds) (f : RoundFault) (old mid : ServerValue) (buffers read_buffers after : Buffers) (first tables later : Held S) (life new_life : LifeState) (read : List ℕ) (taken : Taken)
-      (in1 in2 out1 out2 out3 : Option (List ℕ)) → MakesRoom g life new_life first tables → old.limits ≡ limits → read_buffers.pending.items ≡ buffers.pending.items ++ read → Consumes in1 in2 read → HasCause f read
+      (in1 in2 out1 out2 out3 : Option (List ℕ)) → MakesRoom g life new_life first tables → old.limits ≡ limits → read_buffers.pending.items ≡ buffers.pending.items ++ read → read_buffers.passed_over ≡ buffers.passed_over → Consumes in1 in2 read → HasCause f read
       → Answered old read_buffers after taken mid out1 out2 → StopsCommit g f mid tables later out2 out3
-      → StopsRound g limits f (standing g old buffers first) life later in1 in2 out1 out3
-  stops_committing limits f old mid buffers read_buffers after first tables later life new_life read taken in1 in2 out1 out2 out3 room same reads consumes cause a c =
+      → StopsRound g limits f (standing g old buffers first) life after.passed_over later in1 in2 out1 out3
+  stops_committing limits f old mid buffers read_buffers after first tables later life new_life read taken in1 in2 out1 out2 out3 room same reads counts consumes cause a c =
       let is : server_of mid ≡ after_inputs (server_of old) (inputs_in a.pieces) = a.takes.answers.becomes in
       let kept : mid.limits ≡ limits = a.takes.answers.limits ∙ same in
       record {
@@ -306,6 +315,7 @@ module _ {S : Type 0} (g : Ghosts S) where
             rest = drop taken.used read_buffers.pending.items;
             are = subst (λ (l : Bounds). AllByRecursion (IsPiece l) a.pieces) same a.takes.are;
             cut = sym reads ∙ sym (take-append-drop taken.used read_buffers.pending.items) ∙ ap (λ (k : List ℕ). k ++ drop taken.used read_buffers.pending.items) a.takes.cut;
+            counted = subst (λ (n : ℕ). after.passed_over ≡ counted_on n (count_passed a.pieces)) counts a.passed;
             next = subst (λ (s : Server). IfSome c.batch (λ b. next_batch s ≡ Some (batch_of b))) is c.next;
             batch = c.batch;
             answers = a.answers;
@@ -368,10 +378,10 @@ module _ {S : Type 0} (g : Ghosts S) where
   }
 
   -- it ends there
-  pub serves_at : {E : Type 0} (limits : Bounds) (count : ℕ) (ending : Result E ServeFault) (start now : Standing S) (begun life : LifeState) (tables : Held S) (read put : List ℕ)
+  pub serves_at : {E : Type 0} (limits : Bounds) (count : ℕ) (ending : Result E ServeFault) (passed : ℕ) (start now : Standing S) (begun life : LifeState) (tables : Held S) (read put : List ℕ)
       (in0 in1 in2 out0 out1 out2 : Option (List ℕ)) → Far limits count start now begun life in0 in1 out0 out1 → Consumes in1 in2 read → Appends out1 out2 put
-      → Ends g limits ending count read put in2 now life tables → Serves g limits ending start begun tables in0 in2 out0 out2
-  serves_at limits count ending start now begun life tables read put in0 in1 in2 out0 out1 out2 far consumes appends ends = record {
+      → Ends g limits ending count read put passed in2 now life tables → Serves g limits ending passed start begun tables in0 in2 out0 out2
+  serves_at limits count ending passed start now begun life tables read put in0 in1 in2 out0 out1 out2 far consumes appends ends = record {
     rounds = far.rounds;
     last = now;
     last_life = life;
@@ -380,22 +390,22 @@ module _ {S : Type 0} (g : Ghosts S) where
     reads = Consumes-trans in0 in1 in2 (read_in far.rounds) read far.reads consumes;
     put = put;
     puts = Appends-trans out0 out1 out2 (put_in far.rounds) put far.puts appends;
-    ends = subst (λ (n : ℕ). Ends g limits ending n read put in2 now life tables) (sym far.counted) ends;
+    ends = subst (λ (n : ℕ). Ends g limits ending n read put passed in2 now life tables) (sym far.counted) ends;
   }
 
   -- a round stops
-  pub serves_stopped : {E : Type 0} (limits l : Bounds) (count : ℕ) (start now : Standing S) (begun life : LifeState) (f : RoundFault) (tables : Held S) (in0 in1 in2 out0 out1 out2 : Option (List ℕ)) → l ≡ limits
-      → IsPart limits now.waiting → Far limits count start now begun life in0 in1 out0 out1 → StopsRound g l f now life tables in1 in2 out1 out2 → Serves g limits {E = E} (Err (fault.Round f)) start begun tables in0 in2 out0 out2
-  serves_stopped limits l count start now begun life f tables in0 in1 in2 out0 out1 out2 same part far stops =
-      serves_at limits count (Err (fault.Round f)) start now begun life tables stops.read stops.put in0 in1 in2 out0 out1 out2 far stops.reads stops.puts
-      (stops.cause, subst (λ (k : Bounds). IsPart k now.waiting → StopsInLife g k f stops.read stops.put now life tables) same stops.stopped part)
+  pub serves_stopped : {E : Type 0} (limits l : Bounds) (count : ℕ) (start now : Standing S) (begun life : LifeState) (f : RoundFault) (passed : ℕ) (tables : Held S) (in0 in1 in2 out0 out1 out2 : Option (List ℕ)) → l ≡ limits
+      → IsPart limits now.waiting → Far limits count start now begun life in0 in1 out0 out1 → StopsRound g l f now life passed tables in1 in2 out1 out2 → Serves g limits {E = E} (Err (fault.Round f)) passed start begun tables in0 in2 out0 out2
+  serves_stopped limits l count start now begun life f passed tables in0 in1 in2 out0 out1 out2 same part far stops =
+      serves_at limits count (Err (fault.Round f)) passed start now begun life tables stops.read stops.put in0 in1 in2 out0 out1 out2 far stops.reads stops.puts
+      (stops.cause, subst (λ (k : Bounds). IsPart k now.waiting → StopsInLife g k f stops.read stops.put passed now life tables) same stops.stopped part)
 
   -- no more rounds can be counted
   pub serves_endless : {E : Type 0} (limits : Bounds) (count : ℕ) (start now : Standing S) (begun life : LifeState) (in0 in1 out0 out1 : Option (List ℕ))
-      → count ≡ 2 ^ 64 - 1 → Far limits count start now begun life in0 in1 out0 out1 → Serves g limits {E = E} (Err fault.Endless) start begun now.tables in0 in1 out0 out1
+      → count ≡ 2 ^ 64 - 1 → Far limits count start now begun life in0 in1 out0 out1 → Serves g limits {E = E} (Err fault.Endless) now.passed start begun now.tables in0 in1 out0 out1
   serves_endless limits count start now begun life in0 in1 out0 out1 all far =
-      serves_at limits count (Err fault.Endless) start now begun life now.tables [] [] in0 in1 in1 out0 out1 out1 far (Consumes-nil in1) (Appends-nil out1)
-      (all, (refl, refl, refl))
+      serves_at limits count (Err fault.Endless) now.passed start now begun life now.tables [] [] in0 in1 in1 out0 out1 out1 far (Consumes-nil in1) (Appends-nil out1)
+      (all, (refl, refl, refl, refl))
 
   round_at : (limits l : Bounds) (now next : Standing S) (i j : LifeState) (in1 in2 out1 out2 : Option (List ℕ)) → l ≡ limits → DoesRound g l now next i j in1 in2 out1 out2 → DoesRound g limits now next i j in1 in2 out1 out2
   round_at limits l now next i j in1 in2 out1 out2 same d = subst (λ (k : Bounds). DoesRound g k now next i j in1 in2 out1 out2) same d
@@ -409,39 +419,39 @@ module _ {S : Type 0} (g : Ghosts S) where
 
   -- a round was done, and the input goes on wrongly
   pub serves_no_frame : {E : Type 0} (limits l : Bounds) (count : ℕ) (start now next : Standing S) (begun life new_life : LifeState) (e : RoundEnd) (in0 in1 in2 out0 out1 out2 : Option (List ℕ)) → l ≡ limits → e ≡ end.NoFrame
-      → IsPart limits now.waiting → Far limits count start now begun life in0 in1 out0 out1 → EndsRound g l e now next life new_life in1 in2 out1 out2 → Serves g limits {E = E} (Err fault.NoFrame) start begun next.tables in0 in2 out0 out2
+      → IsPart limits now.waiting → Far limits count start now begun life in0 in1 out0 out1 → EndsRound g l e now next life new_life in1 in2 out1 out2 → Serves g limits {E = E} (Err fault.NoFrame) next.passed start begun next.tables in0 in2 out0 out2
   serves_no_frame limits l count start now next begun life new_life e in0 in1 in2 out0 out1 out2 same is part far ends =
       let d = subst (λ (k : RoundEnd). EndsRound g l k now next life new_life in1 in2 out1 out2) is ends in
-      serves_at limits (count + 1) (Err fault.NoFrame) start next begun new_life next.tables [] [] in0 in2 in2 out0 out2 out2
+      serves_at limits (count + 1) (Err fault.NoFrame) next.passed start next begun new_life next.tables [] [] in0 in2 in2 out0 out2 out2
       (far_more limits count start now next begun life new_life in0 in1 in2 out0 out1 out2 part far (round_at limits l now next life new_life in1 in2 out1 out2 same d.0)) (Consumes-nil in2) (Appends-nil out2)
-      (subst (λ (k : Bounds). IsNoFrame k next.waiting) same d.1, (refl, refl, refl))
+      (subst (λ (k : Bounds). IsNoFrame k next.waiting) same d.1, (refl, refl, refl, refl))
 
   -- how it ends with the input
   ends_with_input : {E : Type 0} (limits : Bounds) (count : ℕ) (r : Result E ServeFault) (now next : Standing S) (life : LifeState) (in2 : Option (List ℕ)) → next ≡ now → IsPart limits now.waiting → IsAtEnd in2
-      → OnOk r (next.waiting ≡ []) → IfErr r (λ f. (f ≡ fault.Cut) × (next.waiting ≢ [])) → Ends g limits r count [] [] in2 now life next.tables
+      → OnOk r (next.waiting ≡ []) → IfErr r (λ f. (f ≡ fault.Cut) × (next.waiting ≢ [])) → Ends g limits r count [] [] next.passed in2 now life next.tables
   ends_with_input limits count (Ok x) now next life in2 same part at_end ok err =
-      (ap (λ (k : Standing S). k.waiting) (sym same) ∙ ok, at_end, (refl, refl, ap (λ (k : Standing S). k.tables) same))
+      (ap (λ (k : Standing S). k.waiting) (sym same) ∙ ok, at_end, (refl, refl, ap (λ (k : Standing S). k.passed) same, ap (λ (k : Standing S). k.tables) same))
   ends_with_input {E} limits count (Err f) now next life in2 same part at_end ok err =
-      subst (λ (k : ServeFault). Ends g limits {E = E} (Err k) count [] [] in2 now life next.tables) (sym err.0)
-      (part, (λ e. err.1 (ap (λ (k : Standing S). k.waiting) same ∙ e)), at_end, (refl, refl, ap (λ (k : Standing S). k.tables) same))
+      subst (λ (k : ServeFault). Ends g limits {E = E} (Err k) count [] [] next.passed in2 now life next.tables) (sym err.0)
+      (part, (λ e. err.1 (ap (λ (k : Standing S). k.waiting) same ∙ e)), at_end, (refl, refl, ap (λ (k : Standing S). k.passed) same, ap (λ (k : Standing S). k.tables) same))
 
   pub serves_ended : {E : Type 0} (limits l : Bounds) (count : ℕ) (r : Result E ServeFault) (start now next : Standing S) (begun life new_life : LifeState) (e : RoundEnd) (waiting : List ℕ) (in0 in1 in2 out0 out1 out2 : Option (List ℕ))
       → l ≡ limits → e ≡ end.Ended → waiting ≡ next.waiting → IsPart limits now.waiting → Far limits count start now begun life in0 in1 out0 out1
       → EndsRound g l e now next life new_life in1 in2 out1 out2 → OnOk r (waiting ≡ []) → IfErr r (λ f. (f ≡ fault.Cut) × (waiting ≢ []))
-      → Serves g limits r start begun next.tables in0 in2 out0 out2
+      → Serves g limits r next.passed start begun next.tables in0 in2 out0 out2
   serves_ended limits l count r start now next begun life new_life e waiting in0 in1 in2 out0 out1 out2 same is names part far ends ok err =
       let d = subst (λ (k : RoundEnd). EndsRound g l k now next life new_life in1 in2 out1 out2) is ends in
-      serves_at limits count r start now begun life next.tables [] [] in0 in1 in2 out0 out1 out2 far d.1
+      serves_at limits count r next.passed start now begun life next.tables [] [] in0 in1 in2 out0 out1 out2 far d.1
       (subst (λ (o : Option (List ℕ)). Appends out1 o []) (sym d.3) (Appends-nil out1))
       (ends_with_input limits count r now next life in2 d.0 part d.2 (subst (λ (k : List ℕ). OnOk r (k ≡ [])) names ok)
       (subst (λ (k : List ℕ). IfErr r (λ f. (f ≡ fault.Cut) × (k ≢ []))) names err))
 
   -- the whole of it, over a store
-  pub serves_over : {E : Type 0} (limits : Bounds) (store : StoreState) (life : LifeState) (r : Result E ServeFault) (server : ServerValue) (pending : List ℕ) (old new : Held S)
+  pub serves_over : {E : Type 0} (limits : Bounds) (store : StoreState) (life : LifeState) (r : Result E ServeFault) (passed : ℕ) (server : ServerValue) (pending : List ℕ) (old new : Held S)
       (in0 in1 out0 out1 : Option (List ℕ)) → IsResumed limits store life.floor server → pending ≡ []
-      → Serves g server.limits r (record { server = server_of server; waiting = pending; passed = 0; tables = old }) life new in0 in1 out0 out1
-      → Serves g limits r (record { server = opened limits store life.floor; waiting = []; passed = 0; tables = old }) life new in0 in1 out0 out1
-  serves_over limits store life r server pending old new in0 in1 out0 out1 is empty serves =
-      subst (λ (l : Bounds). Serves g l r (record { server = opened limits store life.floor; waiting = []; passed = 0; tables = old }) life new in0 in1 out0 out1) is.limits
-      (subst (λ (k : List ℕ). Serves g server.limits r (record { server = opened limits store life.floor; waiting = k; passed = 0; tables = old }) life new in0 in1 out0 out1) empty
-      (subst (λ (s : Server). Serves g server.limits r (record { server = s; waiting = pending; passed = 0; tables = old }) life new in0 in1 out0 out1) is.server serves))
+      → Serves g server.limits r passed (record { server = server_of server; waiting = pending; passed = 0; tables = old }) life new in0 in1 out0 out1
+      → Serves g limits r passed (record { server = opened limits store life.floor; waiting = []; passed = 0; tables = old }) life new in0 in1 out0 out1
+  serves_over limits store life r passed server pending old new in0 in1 out0 out1 is empty serves =
+      subst (λ (l : Bounds). Serves g l r passed (record { server = opened limits store life.floor; waiting = []; passed = 0; tables = old }) life new in0 in1 out0 out1) is.limits
+      (subst (λ (k : List ℕ). Serves g server.limits r passed (record { server = opened limits store life.floor; waiting = k; passed = 0; tables = old }) life new in0 in1 out0 out1) empty
+      (subst (λ (s : Server). Serves g server.limits r passed (record { server = s; waiting = pending; passed = 0; tables = old }) life new in0 in1 out0 out1) is.server serves))

@@ -71,14 +71,15 @@ PutsAnswers round.Memory limits put answers server rest = put ≡ []
 PutsAnswers (round.Output e) limits put answers server rest = (n : ℕ) × (put ≡ take n answers)
 PutsAnswers _ limits put answers server rest = ⊥
 
--- The bytes begin with some pieces, and of what is said to them this was put out, and no more.
-pub record StopsAnswering (fault : RoundFault) (old : ServerValue) (bytes : List ℕ)
+-- What waits begins with some pieces, and of what is said to them this was put out, and no more.
+pub record StopsAnswering (fault : RoundFault) (old : ServerValue) (buffers after : Buffers)
     (old_out new_out : Option (List ℕ)) : Type 0 where
   pub pieces : List Piece
   pub rest : List ℕ
   pub answers : List ℕ
   pub are : AllByRecursion (IsPiece old.limits) pieces
-  pub cut : bytes ≡ flat_map bytes_of pieces ++ rest
+  pub cut : buffers.pending.items ≡ flat_map bytes_of pieces ++ rest
+  pub passed : after.passed_over ≡ counted_on buffers.passed_over (count_passed pieces)
   pub says : Spells old.limits (said_to (server_of old) (inputs_in pieces)) answers
   pub put : List ℕ
   pub puts : Appends old_out new_out put
@@ -109,24 +110,25 @@ module _ {S : Type 0} (g : Ghosts S) where
     pub puts : Appends old_out new_out dones
 
   -- No room was found for whom the server knew once it had taken these pieces; nothing was put out.
-  pub record FindsNoRoom (fault : RoundFault) (old : ServerValue) (bytes : List ℕ)
+  pub record FindsNoRoom (fault : RoundFault) (old : ServerValue) (buffers after : Buffers)
       (life : LifeState) (old_tables new_tables : Held S) (old_out new_out : Option (List ℕ))
       : Type 0 where
     pub pieces : List Piece
     pub rest : List ℕ
     pub are : AllByRecursion (IsPiece old.limits) pieces
-    pub cut : bytes ≡ flat_map bytes_of pieces ++ rest
+    pub cut : buffers.pending.items ≡ flat_map bytes_of pieces ++ rest
+    pub passed : after.passed_over ≡ counted_on buffers.passed_over (count_passed pieces)
     pub unsaid : new_out ≡ old_out
     pub told : RefusesRoom g fault old_tables new_tables
     pub crash : Survives (state g old_tables) (state g new_tables) (MayMakeRoom g life old_tables)
 
   -- it wasn't answered, or not whole: with room, or for want of it
-  abbrev pub StopsWithin : RoundFault → ServerValue → (bytes : List ℕ) → LifeState
+  abbrev pub StopsWithin : RoundFault → ServerValue → (buffers after : Buffers) → LifeState
       → (old_tables new_tables : Held S) → (old_out new_out : Option (List ℕ)) → Type 0
-  StopsWithin fault old bytes life old_tables new_tables old_out new_out =
+  StopsWithin fault old buffers after life old_tables new_tables old_out new_out =
       ((new_life : LifeState) × MakesRoom g life new_life old_tables new_tables
-      × StopsAnswering fault old bytes old_out new_out)
-      ⊎ FindsNoRoom fault old bytes life old_tables new_tables old_out new_out
+      × StopsAnswering fault old buffers after old_out new_out)
+      ⊎ FindsNoRoom fault old buffers after life old_tables new_tables old_out new_out
 
   -- a batch that fits was refused, by the database or for want of memory: on a clean disk the
   -- tables are as before
@@ -194,12 +196,12 @@ module _ {S : Type 0} (g : Ghosts S) where
 
   -- A round was begun and not finished, behind less than a whole piece.
   pub record StopsRound (limits : Bounds) (fault : RoundFault) (old : Standing S)
-      (life : LifeState) (tables : Held S) (old_in new_in old_out new_out : Option (List ℕ))
-      : Type 0 where
+      (life : LifeState) (passed : ℕ) (tables : Held S)
+      (old_in new_in old_out new_out : Option (List ℕ)) : Type 0 where
     pub read : List ℕ
     pub reads : Consumes old_in new_in read
     pub put : List ℕ
     pub puts : Appends old_out new_out put
     pub cause : HasCause fault read
     pub stopped : IsPart limits old.waiting
-        → StopsInLife g limits fault read put old life tables
+        → StopsInLife g limits fault read put passed old life tables

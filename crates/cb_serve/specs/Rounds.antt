@@ -1,5 +1,5 @@
 -- One round of a service: what it reads, says, writes to the tables and says then.
-use Rattle.std.specs.Prelude.{◌≡◌, ◌≢◌, ℕ, ◌+◌, ◌-◌, ◌^◌, min, List, [], ◌∷◌, ◌++◌}
+use Rattle.std.specs.Prelude.{◌≡◌, ◌≢◌, ℕ, zero, ◌+◌, ◌-◌, ◌^◌, min, List, [], ◌∷◌, ◌++◌}
 use Rattle.std.specs.Prelude.{Option, Some, None, IfSome, option_map}
 use Rattle.std.specs.List.{AllByRecursion, flat_map}
 use Rattle.sqlite.specs.Held.{Held, state}
@@ -36,6 +36,7 @@ pub record Standing (S : Type 0) : Type 0 where
 
 -- a count goes on, up to what 64 bits can count
 abbrev pub counted_on : ℕ → ℕ → ℕ
+counted_on count zero = count
 counted_on count more = min (count + more) (2 ^ 64 - 1)
 
 -- the commits on disk: all, or those up to a batch's

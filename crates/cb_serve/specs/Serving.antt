@@ -21,12 +21,13 @@ use Rattle.cb_serve.specs.Answering.{LacksNumber, Spells, after_inputs, inputs_i
 use Rattle.cb_serve.specs.Calls.{IsFinal}
 use Rattle.cb_serve.specs.Living.{IsRoundOfLife, MakesRoom, MayMakeRoom, RefusesRoom}
 use Rattle.cb_serve.specs.Rounds.{LeavesBatch, Round, SaysDones, Standing, StaysUnwritten}
-use Rattle.cb_serve.specs.Rounds.{Writes, WritesOrNot}
-use Rattle.cb_serve.specs.Streams.{IsNoFrame, IsPart, IsPiece, Piece, bytes_of}
+use Rattle.cb_serve.specs.Rounds.{Writes, WritesOrNot, counted_on}
+use Rattle.cb_serve.specs.Streams.{IsNoFrame, IsPart, IsPiece, Piece, bytes_of, count_passed}
 use Rattle.cb_serve.specs.declared.fault.RoundFault.{RoundFault}
 use Rattle.cb_serve.specs.declared.fault.RoundFault.TheVariants as round
 use Rattle.cb_serve.specs.declared.fault.ServeFault.{ServeFault}
 use Rattle.cb_serve.specs.declared.fault.ServeFault.TheVariants as fault
+use Rattle.cb_serve.specs.declared.serving.Served.{Served}
 
 -- the bytes that rounds read, and those that they put out
 abbrev pub read_in : List Round → List ℕ
@@ -43,6 +44,10 @@ opened limits store floor = server_of_life (limits_of limits) (opening_of store)
 abbrev pub HoldsStore : {S : Type 0} → Ghosts S → StoreState → Held S → Type 0
 HoldsStore g store tables = HasCleanDisk (state g tables) → IsTrue (state g tables).is_open
     → HoldsNewer (state g tables).now store
+
+-- serving that was refused before any round
+abbrev pub refused : RoundFault → Served
+refused f = record { passed_over = 0; ending = Err (fault.Round f) }
 
 -- The cause of a round that wasn't finished: a read was refused, which gave nothing; or something
 -- was read. A call that was refused wasn't interrupted, or as often in a row as 64 bits can count.
@@ -93,8 +98,8 @@ module _ {S : Type 0} (g : Ghosts S) (limits : Bounds) where
   -- A round that wasn't finished: what it read begins with these pieces, and what it put out is
   -- said to them; its batch, if it came to one, is the next of the server that took them, and fits;
   -- and its fault tells how far it came.
-  pub record IsStopped (f : RoundFault) (read put : List ℕ) (old : Standing S) (tables : Held S)
-      : Type 0 where
+  pub record IsStopped (f : RoundFault) (read put : List ℕ) (passed : ℕ) (old : Standing S)
+      (tables : Held S) : Type 0 where
     pub begins : IsPart limits old.waiting
     pub pieces : List Piece
     pub rest : List ℕ
@@ -103,6 +108,7 @@ module _ {S : Type 0} (g : Ghosts S) (limits : Bounds) where
     pub dones : List ℕ
     pub are : AllByRecursion (IsPiece limits) pieces
     pub cut : old.waiting ++ read ≡ flat_map bytes_of pieces ++ rest
+    pub counted : passed ≡ counted_on old.passed (count_passed pieces)
     pub says : Spells limits (said_to old.server (inputs_in pieces)) answers
     pub next : IfSome batch (λ b.
         next_batch (after_inputs old.server (inputs_in pieces)) ≡ Some (batch_of b))
@@ -114,47 +120,49 @@ module _ {S : Type 0} (g : Ghosts S) (limits : Bounds) where
 
   -- A round that took these pieces, and found no room for whom the server knew then: nothing was
   -- put out.
-  pub record LacksRoom (f : RoundFault) (read put : List ℕ) (old : Standing S) (life : LifeState)
-      (tables : Held S) : Type 0 where
+  pub record LacksRoom (f : RoundFault) (read put : List ℕ) (passed : ℕ) (old : Standing S)
+      (life : LifeState) (tables : Held S) : Type 0 where
     pub begins : IsPart limits old.waiting
     pub pieces : List Piece
     pub rest : List ℕ
     pub are : AllByRecursion (IsPiece limits) pieces
     pub cut : old.waiting ++ read ≡ flat_map bytes_of pieces ++ rest
+    pub counted : passed ≡ counted_on old.passed (count_passed pieces)
     pub unsaid : put ≡ []
     pub told : RefusesRoom g f old.tables tables
     pub crash : Survives (state g old.tables) (state g tables) (MayMakeRoom g life old.tables)
 
   -- a round of a life that wasn't finished: it found no room, or it was stopped as any over the
   -- tables that it left with room
-  abbrev pub StopsInLife : RoundFault → (read put : List ℕ) → Standing S → LifeState
-      → (tables : Held S) → Type 0
-  StopsInLife f read put old life tables = ((mid : Held S) × (new_life : LifeState)
+  abbrev pub StopsInLife : RoundFault → (read put : List ℕ) → (passed : ℕ) → Standing S
+      → LifeState → (tables : Held S) → Type 0
+  StopsInLife f read put passed old life tables = ((mid : Held S) × (new_life : LifeState)
       × MakesRoom g life new_life old.tables mid
-      × IsStopped f read put (record old { tables = mid }) tables)
-      ⊎ LacksRoom f read put old life tables
+      × IsStopped f read put passed (record old { tables = mid }) tables)
+      ⊎ LacksRoom f read put passed old life tables
 
-  -- behind the last round nothing was read or put out, and the tables stayed
-  abbrev pub EndsQuietly : (read put : List ℕ) → Standing S → Held S → Type 0
-  EndsQuietly read put last tables = (read ≡ []) × (put ≡ []) × (tables ≡ last.tables)
+  -- behind the last round nothing was read, put out or passed over, and the tables stayed
+  abbrev pub EndsQuietly : (read put : List ℕ) → (passed : ℕ) → Standing S → Held S → Type 0
+  EndsQuietly read put passed last tables =
+      (read ≡ []) × (put ≡ []) × (passed ≡ last.passed) × (tables ≡ last.tables)
 
   -- how it ends behind so many rounds: with the input; with an input that goes on wrongly, or ends
   -- within a frame; once 64 bits can't count more rounds; or within a round, for its cause
   abbrev pub Ends : {E : Type 0} → Result E ServeFault → (rounds : ℕ) → (read put : List ℕ)
-      → (new_in : Option (List ℕ)) → Standing S → LifeState → Held S → Type 0
-  Ends (Ok _) rounds read put new_in last life tables =
-      (last.waiting ≡ []) × IsAtEnd new_in × EndsQuietly read put last tables
-  Ends (Err fault.NoFrame) rounds read put new_in last life tables =
-      IsNoFrame limits last.waiting × EndsQuietly read put last tables
-  Ends (Err fault.Cut) rounds read put new_in last life tables = IsPart limits last.waiting
-      × (last.waiting ≢ []) × IsAtEnd new_in × EndsQuietly read put last tables
-  Ends (Err fault.Endless) rounds read put new_in last life tables =
-      (rounds ≡ 2 ^ 64 - 1) × EndsQuietly read put last tables
-  Ends (Err (fault.Round f)) rounds read put new_in last life tables =
-      HasCause f read × StopsInLife f read put last life tables
+      → (passed : ℕ) → (new_in : Option (List ℕ)) → Standing S → LifeState → Held S → Type 0
+  Ends (Ok _) rounds read put passed new_in last life tables =
+      (last.waiting ≡ []) × IsAtEnd new_in × EndsQuietly read put passed last tables
+  Ends (Err fault.NoFrame) rounds read put passed new_in last life tables =
+      IsNoFrame limits last.waiting × EndsQuietly read put passed last tables
+  Ends (Err fault.Cut) rounds read put passed new_in last life tables = IsPart limits last.waiting
+      × (last.waiting ≢ []) × IsAtEnd new_in × EndsQuietly read put passed last tables
+  Ends (Err fault.Endless) rounds read put passed new_in last life tables =
+      (rounds ≡ 2 ^ 64 - 1) × EndsQuietly read put passed last tables
+  Ends (Err (fault.Round f)) rounds read put passed new_in last life tables =
+      HasCause f read × StopsInLife f read put passed last life tables
 
-  -- Rounds from there on, and how they end.
-  pub record Serves {E : Type 0} (ending : Result E ServeFault) (old : Standing S)
+  -- Rounds from there on, how they end, and how many pieces were passed over in all.
+  pub record Serves {E : Type 0} (ending : Result E ServeFault) (passed : ℕ) (old : Standing S)
       (life : LifeState) (tables : Held S) (old_in new_in old_out new_out : Option (List ℕ))
       : Type 0 where
     pub rounds : List Round
@@ -165,33 +173,31 @@ module _ {S : Type 0} (g : Ghosts S) (limits : Bounds) where
     pub reads : Consumes old_in new_in (read_in rounds ++ read)
     pub put : List ℕ
     pub puts : Appends old_out new_out (put_in rounds ++ put)
-    pub ends : Ends ending (length rounds) read put new_in last last_life tables
+    pub ends : Ends ending (length rounds) read put passed new_in last last_life tables
 
   -- Rounds over a store that the tables hold: the first of them begins with the server of a life
   -- over it, and with these tables.
-  pub record ServesStore {E : Type 0} (store : StoreState) (life : LifeState)
-      (ending : Result E ServeFault) (old new : Held S)
-      (old_in new_in old_out new_out : Option (List ℕ)) : Type 0 where
+  pub record ServesStore (store : StoreState) (life : LifeState) (served : Served)
+      (old new : Held S) (old_in new_in old_out new_out : Option (List ℕ)) : Type 0 where
     pub holds : HoldsStore g store old
-    pub serves : Serves ending
+    pub serves : Serves served.ending served.passed_over
         (record { server = opened limits store life.floor; waiting = []; passed = 0; tables = old })
         life new
         old_in new_in old_out new_out
 
   -- It was refused before any round: memory was refused for a server, or for what is read. Nothing
   -- was read or put out, and the tables are as before, and hold the store.
-  pub record LacksMemory {E : Type 0} (store : StoreState) (ending : Result E ServeFault)
+  pub record LacksMemory (store : StoreState) (served : Served)
       (old new : Held S) (old_in new_in old_out new_out : Option (List ℕ)) : Type 0 where
-    pub told : ending ≡ Err (fault.Round round.Memory)
+    pub told : served ≡ refused round.Memory
     pub tables : new ≡ old
     pub holds : HoldsStore g store new
     pub unread : new_in ≡ old_in
     pub unsaid : new_out ≡ old_out
 
   -- a service over a store that the tables hold: rounds, or no memory to begin with
-  abbrev pub IsServed : {E : Type 0} → StoreState → LifeState → Result E ServeFault
-      → (old new : Held S)
+  abbrev pub IsServed : StoreState → LifeState → Served → (old new : Held S)
       → (old_in new_in old_out new_out : Option (List ℕ)) → Type 0
-  IsServed store life ending old new old_in new_in old_out new_out =
-      ServesStore store life ending old new old_in new_in old_out new_out
-      ⊎ LacksMemory store ending old new old_in new_in old_out new_out
+  IsServed store life served old new old_in new_in old_out new_out =
+      ServesStore store life served old new old_in new_in old_out new_out
+      ⊎ LacksMemory store served old new old_in new_in old_out new_out

@@ -4,6 +4,7 @@ use Rattle.cb_frame.specs.declared.frame.Frame.{Frame}
 use Rattle.cb_server.specs.ServerValue.{ServerValue, server_of}
 use Rattle.cb_server.specs.Taking.{lacks_number_for}
 use Rattle.cb_serve.specs.Answering.{LacksNumber, TakesPieces}
+use Rattle.cb_serve.specs.Rounds.{counted_on}
 use Rattle.cb_serve.specs.Streams.{IsNoFrame, IsPart, Piece, count_passed}
 use Rattle.cb_serve.specs.declared.fault.RoundFault.{RoundFault}
 use Rattle.cb_serve.specs.declared.fault.RoundFault.TheVariants as round
@@ -19,14 +20,15 @@ TakesFront old bytes (step.Taken used count) said new = (0 < used) × (piece : P
 TakesFront old bytes step.Part said new = IsPart old.limits bytes × (said ≡ []) × (new ≡ old)
 TakesFront old bytes step.NoFrame said new = IsNoFrame old.limits bytes × (said ≡ []) × (new ≡ old)
 
--- All whole pieces of the bytes are taken, and what is said to them is appended.
-pub record TakesAll (old : ServerValue) (bytes said_before : List ℕ) (taken : Taken)
-    (said_after : List ℕ) (new : ServerValue) : Type 0 where
+-- All whole pieces of the bytes are taken, what is said to them is appended, and those that are
+-- passed over are counted.
+pub record TakesAll (old : ServerValue) (bytes said_before : List ℕ) (passed_before : ℕ)
+    (taken : Taken) (said_after : List ℕ) (passed_after : ℕ) (new : ServerValue) : Type 0 where
   pub pieces : List Piece
   pub more : List ℕ
   pub said : said_after ≡ said_before ++ more
   pub takes : TakesPieces old bytes pieces taken.used more new
-  pub count : taken.passed_over ≡ count_passed pieces
+  pub count : passed_after ≡ counted_on passed_before (count_passed pieces)
   pub part : taken.ends ≡ false → IsPart old.limits (drop taken.used bytes)
   pub no_frame : taken.ends ≡ true → IsNoFrame old.limits (drop taken.used bytes)
 
@@ -44,10 +46,12 @@ RefusesFront old bytes round.Memory = Unit {0}
 RefusesFront old bytes _ = ⊥
 
 -- Some of the first pieces of the bytes were taken, and the next one wasn't.
-pub record StopsTaking (old : ServerValue) (bytes : List ℕ) (fault : RoundFault) : Type 0 where
+pub record StopsTaking (old : ServerValue) (bytes : List ℕ) (passed_before passed_after : ℕ)
+    (fault : RoundFault) : Type 0 where
   pub pieces : List Piece
   pub used : ℕ
   pub said : List ℕ
   pub mid : ServerValue
   pub takes : TakesPieces old bytes pieces used said mid
+  pub count : passed_after ≡ counted_on passed_before (count_passed pieces)
   pub refuses : RefusesFront mid (drop used bytes) fault

@@ -106,8 +106,8 @@ fn answer<S: Alter, W: Write>(
         (W.contents output.old) (W.contents output.new)) }
     ensures room { OnOk result (KeepsRoom S.Store (server_of server.new) life.old life.new
         shelf.old.conn shelf.new.conn) }
-    ensures err { IfErr result (λ fault. StopsWithin S.Store fault server.old
-        buffers.old.pending.items life.old shelf.old.conn shelf.new.conn
+    ensures err { IfErr result (λ fault. StopsWithin S.Store fault server.old buffers.old
+        buffers.new life.old shelf.old.conn shelf.new.conn
         (W.contents output.old) (W.contents output.new)) }
     ensures cause { IfErr result StopsBehind }
     ensures limits { shelf.new.limits ≡ shelf.old.limits }
@@ -119,9 +119,9 @@ fn answer<S: Alter, W: Write>(
         life.end(),
         buffers.pending.as_slice(),
         &mut buffers.said,
+        &mut buffers.passed_over,
     )?;
     drop_front(&mut buffers.pending, taken.used);
-    buffers.passed_over = buffers.passed_over.saturating_add(taken.passed_over as u64);
     keep_room(server, shelf, life)?;
     match put_out(output, buffers.said.as_slice()) {
         Ok(()) => Ok(taken),
@@ -221,7 +221,8 @@ pub(crate) fn round<S: Alter, R: Read, W: Write>(
         (R.remaining input.old) (R.remaining input.new)
         (W.contents output.old) (W.contents output.new)) }
     ensures err { IfErr result (λ fault. StopsRound S.Store server.old.limits fault
-        (standing S.Store server.old buffers.old shelf.old.conn) life.old shelf.new.conn
+        (standing S.Store server.old buffers.old shelf.old.conn) life.old
+        buffers.new.passed_over shelf.new.conn
         (R.remaining input.old) (R.remaining input.new)
         (W.contents output.old) (W.contents output.new)) }
     ensures shelf { shelf.new.limits ≡ shelf.old.limits }

@@ -4,7 +4,7 @@ ghost use Rattle.cb_commit.specs.Stores.{IsOf};
 ghost use Rattle.cb_server.specs.Knowing.{KnowsBelow};
 ghost use Rattle.cb_server.specs.ServerValue.{IsResumed, server_of};
 ghost use Rattle.cb_serve.specs.Parts.{standing};
-ghost use Rattle.cb_serve.specs.Serving.{HoldsStore, IsServed, Serves};
+ghost use Rattle.cb_serve.specs.Serving.{HoldsStore, IsServed, Serves, refused};
 
 use crate::fault::{RoundFault, ServeFault};
 use crate::round::{Buffers, RoundEnd, round};
@@ -31,7 +31,7 @@ pub struct Served {
 impl Served {
     /// Serving was refused before any round.
     pub fn refused(fault: RoundFault) -> Served
-        ensures { result ≡ record { passed_over = 0; ending = Err (ServeFault.Round fault) } }
+        ensures { result ≡ refused fault }
     {
         Served {
             passed_over: 0,
@@ -55,7 +55,7 @@ fn serve_rounds<S: Alter, R: Read, W: Write>(
     requires limits { shelf.old.limits ≡ server.old.limits }
     requires empty { buffers.old.pending.items ≡ [] }
     requires known { KnowsBelow (server_of server.old) life.old.below }
-    ensures serves { Serves S.Store server.old.limits result
+    ensures serves { Serves S.Store server.old.limits result buffers.new.passed_over
         (standing S.Store server.old buffers.old shelf.old.conn) life.old shelf.new.conn
         (R.remaining input.old) (R.remaining input.new)
         (W.contents output.old) (W.contents output.new) }
@@ -113,7 +113,7 @@ pub fn serve<S: Alter, R: Read, W: Write>(
     requires shelf { shelf.old.limits ≡ limits.now }
     requires store { IsOf limits.now store }
     requires holds { HoldsStore S.Store store shelf.old.conn }
-    ensures { IsServed S.Store limits.now store life result.ending shelf.old.conn shelf.new.conn
+    ensures { IsServed S.Store limits.now store life result shelf.old.conn shelf.new.conn
         (R.remaining input.old) (R.remaining input.new)
         (W.contents output.old) (W.contents output.new) }
 {

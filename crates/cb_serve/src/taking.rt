@@ -21,7 +21,7 @@ use std::alloc::Global;
 #[derive(Clone, Copy)]
 pub(crate) enum Step {
     /// It was taken: how many bytes it has, and how many pieces were passed over, one or none.
-    Taken(usize, usize),
+    Taken(usize, u64),
     /// It is less than a whole piece.
     Part,
     /// It is a header that no frame has.
@@ -33,8 +33,6 @@ pub(crate) enum Step {
 pub(crate) struct Taken {
     /// How many bytes the pieces had.
     pub(crate) used: usize,
-    /// How many of the pieces were passed over.
-    pub(crate) passed_over: usize,
     /// Whether a header comes next that no frame has.
     pub(crate) ends: bool,
 }
@@ -127,46 +125,39 @@ fn take_front(
     }
 }
 
-/// Takes all whole pieces of the bytes, and appends the answers to them. Hellos from `end` on are
-/// ignored.
+/// Takes all whole pieces of the bytes, appends the answers to them, and counts those that it
+/// passes over. Hellos from `end` on are ignored.
 pub(crate) fn take_all(
     alloc: Global,
     server: &mut Server,
     end: u64,
     bytes: &[u8],
     said: &mut Vec<u8>,
+    passed_over: &mut u64,
 ) -> Result<Taken, RoundFault>
     requires { raise_end ≤ end }
-    ensures ok { IfOk result (λ taken. TakesAll server.old bytes.now said.old.items taken
-        said.new.items server.new) }
+    ensures ok { IfOk result (λ taken. TakesAll server.old bytes.now said.old.items
+        passed_over.old taken said.new.items passed_over.new server.new) }
     ensures known { KnowsBelow (server_of server.old) end
         → OnOk result (KnowsBelow (server_of server.new) end) }
-    ensures err { IfErr result (StopsTaking server.old bytes.now) }
+    ensures err { IfErr result (StopsTaking server.old bytes.now passed_over.old
+        passed_over.new) }
 {
     let mut used = 0;
-    let mut passed_over = 0;
     loop {
         let step = take_front(alloc, server, end, &bytes[used..], said)?;
         match step {
             Step::Taken(count, passed) => {
                 used += count;
-                passed_over += passed;
+                *passed_over = passed_over.saturating_add(passed);
             }
             Step::Part => {
                 let ends = false;
-                return Ok(Taken {
-                    used,
-                    passed_over,
-                    ends,
-                });
+                return Ok(Taken { used, ends });
             }
             Step::NoFrame => {
                 let ends = true;
-                return Ok(Taken {
-                    used,
-                    passed_over,
-                    ends,
-                });
+                return Ok(Taken { used, ends });
             }
         }
     }

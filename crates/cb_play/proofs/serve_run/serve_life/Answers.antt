@@ -1,6 +1,5 @@
 -- Goals of `serve_life`.
-use Rattle.std.proofs.Common.{ap, inl}
-use Rattle.cb_serve.specs.declared.serving.Served.{Served}
+use Rattle.std.proofs.Common.{inl}
 use Rattle.cb_play.proofs.Services.{untold}
 use Rattle.cb_play.proofs.serve_run.serve_life.Goals as goal
 
@@ -9,6 +8,6 @@ returns-in-Ok g c = inl (g.O.Write.contents c.tell_life.new.out, c.in-Ok.ensures
 
 pub returns-in-Err : goal.returns-in-Err
 returns-in-Err g c =
-    untold g.S.Store c.args.limits.now c.args.announces c.args.store c.args.life c.in-Err.fault c.refused.result.ending c.args.shelf.now.conn
+    untold g.S.Store c.args.limits.now c.args.announces c.args.store c.args.life c.in-Err.fault c.refused.result c.args.shelf.now.conn
     (g.I.Read.remaining c.args.input.now) (g.O.Write.contents c.args.out.now) (g.O.Write.contents c.tell_life.new.out)
-    (ap (λ (s : Served). s.ending) c.refused.ensures) c.in-Err.ensures.err
+    c.refused.ensures c.in-Err.ensures.err

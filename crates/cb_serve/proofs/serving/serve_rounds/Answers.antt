@@ -6,7 +6,7 @@ use Rattle.cb_serve.proofs.serving.serve_rounds.Goals as goal
 
 pub returns-in-Err-clause-serves : goal.returns-in-Err-clause-serves
 returns-in-Err-clause-serves g c =
-    serves_stopped g.S.Store c.args.server.now.limits c.loop-count.server.limits c.loop-count._count _ _ _ _ c.in-Err.fault c.round.new.shelf.conn _ _ _ _ _ _ c.loop-count.invariant.1 c.loop-count.invariant.2 c.loop-count.invariant.3 c.in-Err.ensures.err
+    serves_stopped g.S.Store c.args.server.now.limits c.loop-count.server.limits c.loop-count._count _ _ _ _ c.in-Err.fault _ c.round.new.shelf.conn _ _ _ _ _ _ c.loop-count.invariant.1 c.loop-count.invariant.2 c.loop-count.invariant.3 c.in-Err.ensures.err
 
 pub returns-in-NoFrame-clause-serves : goal.returns-in-NoFrame-clause-serves
 returns-in-NoFrame-clause-serves g c =
