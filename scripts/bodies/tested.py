@@ -48,17 +48,14 @@ def stored_run(top: Path) -> tuple[Said, str]:
     return said, "" if said.output == (crate / "stdout").read_text() else "another output"
 
 
-def built_with(prover: Prover, crate: str, name: str, top: Path) -> Path:
-    """The program of a crate in a copy with an edit of its own, proved over what is built below; or
-    a crate's tests, compiled without proofs, with an edit of any crate."""
+def built_with(name: str, top: Path) -> Path:
+    """The program of a crate, or its tests, of a copy with an edit, compiled without proofs."""
+    made = top / f"{name}_made"
     if name in TESTS.values():
-        made = top / f"{name}_tests"
         unproved.made_tests(name, made, top / "room", top)
-        return made
-    if crate != name:
-        raise building.NotBuilt(f"{name} is built over crates that are proved, and {crate} is one")
-    prover.words(name)
-    return building.linked(top / "crates" / name, building.libraries_of(name), prover.below)
+    else:
+        unproved.made_plain(name, made, top / "room", "--version", top=top)
+    return made
 
 
 def word_run(program: Path, words: list[str]) -> tuple[Said, str]:
@@ -70,7 +67,7 @@ def word_run(program: Path, words: list[str]) -> tuple[Said, str]:
     return said, (said.output.strip().splitlines() or ["it fails"])[-1] if said.status else ""
 
 
-def run_of(prover: Prover, crate: str, edit: Edit, room: Path) -> tuple[Said, str]:
+def run_of(crate: str, edit: Edit, room: Path) -> tuple[Said, str]:
     """The run that an edit names, over a copy with it, and how it fails."""
     kind, words = edit.runs()[0]
     if kind == "test":
@@ -79,10 +76,10 @@ def run_of(prover: Prover, crate: str, edit: Edit, room: Path) -> tuple[Said, st
         return stored_run(copy_with(edit, crate, ["cb_play"], room))
     name = TESTS.get(" ".join(words), "cb_play")
     top = copy_with(edit, crate, [name], room)
-    return word_run(built_with(prover, crate, name, top), words)
+    return word_run(built_with(name, top), words)
 
 
-def try_runs(prover: Prover, crate: str, edits: list[Edit]) -> Came:
+def try_runs(_prover: Prover, crate: str, edits: list[Edit]) -> Came:
     """Does the run that each edit names, and says how each fails."""
     came = Came()
     for edit in edits:
@@ -91,7 +88,7 @@ def try_runs(prover: Prover, crate: str, edits: list[Edit]) -> Came:
             continue
         with building.a_room() as room:
             try:
-                said, how = run_of(prover, crate, edit, room)
+                said, how = run_of(crate, edit, room)
                 came.add(said)
             except building.NotBuilt as why:
                 came.bad[edit] = str(why)[-300:]

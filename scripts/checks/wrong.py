@@ -11,8 +11,8 @@ names the clone in which `rt ci` ran over the same sources (this one, if it isn'
 wrong bodies stand in one check of its crate as functions of other names; what else they call is
 taken as stated. What such a check doesn't refuse is tried in its own place, and what still isn't is
 tried alone, with the whole crate proved. Changes of definitions are tried alone from the start.
-Of a body marked `tested` the run that it names has to fail: a test with no proof (`rt try --test`),
-or a word of scripts/check, over a program that is built with the body.
+Of a body marked `tested` the run that it names has to fail: a test (`rt try --test`), or a word of
+scripts/check, over a program that is compiled with the body. Neither is proved.
 
 A line for each says what refuses it: the function and its first open goal, or the run that fails.
 The last lines are a table by crate, with processor minutes, and the survivors; the status is 1 if
