@@ -327,8 +327,9 @@ def slow_reader_goes(gateway: Gateway) -> bool:
     """Once another server is there, no connection is left of the former, whatever waits for it."""
     with Peer(gateway, 1) as peer:
         last = peer.welcome().incarnation
-        for page in range(100):
-            peer.say(ASK_READ, of_read(1, page % 64))
+        # 248,000 bytes: more than a socket takes, and fewer than may wait for a client.
+        for page in range(60):
+            peer.say(ASK_READ, of_read(1, page))
         with Peer(gateway, 2) as other:
             other.welcome()
         gateway.kill_servers()

@@ -213,11 +213,16 @@ def run_kills(tries: Tries, it: Built, kills: int, seed: int) -> None:
     work = at_accounts(it, gateway)
     work.begin()
     said, wrong = kill_often(gateway, work, random.Random(seed), kills, 0.4)
+    # A gateway that is stopped before it began a killed server anew ends with 1. So each client
+    # commits three times more.
+    if not wrong and not work.all_go_on(16):
+        wrong = ["not all clients went on after the last kill"]
     work.end()
     status = gateway.stop()
     wrong += table_faults(work, gateway)
+    wrong += [f"the gateway ended with {status}: {gateway.log()[-2000:]}"] if status else []
     said += f", {sum(answered(work, client) for client in range(WORKERS))} commits answered"
-    tries.told("kills", not wrong and status == 0, "\n".join([*wrong, said]))
+    tries.told("kills", not wrong, "\n".join([*wrong, said]))
 
 
 def table_faults(work: Workers, gateway: Gateway) -> list[str]:
