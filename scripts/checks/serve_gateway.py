@@ -443,7 +443,9 @@ def waits_for_a_listener(scene: Scene) -> bool:
         held.settimeout(60)
         gateway.spawn()
         held.accept()[0].close()  # it has looked who listens
-    return gateway.process.stdout.readline() == b"ready\n" and is_served(gateway, 1)
+    # The killed gateway's server may have the store for a moment longer.
+    is_ready = gateway.process.stdout.readline() == b"ready\n"
+    return is_ready and wait_for(lambda: comes(gateway), 60)
 
 
 def listener_left(scene: Scene) -> bool:
