@@ -213,8 +213,8 @@ def run_kills(tries: Tries, it: Built, kills: int, seed: int) -> None:
     work = at_accounts(it, gateway)
     work.begin()
     said, wrong = kill_often(gateway, work, random.Random(seed), kills, 0.4)
-    # A gateway that is stopped before it began a killed server anew ends with 1. So each client
-    # commits three times more.
+    # A gateway that sees as it stops that its server was killed ends with 1. So each client commits
+    # three times more first.
     if not wrong and not work.all_go_on(16):
         wrong = ["not all clients went on after the last kill"]
     work.end()
