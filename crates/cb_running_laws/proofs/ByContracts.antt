@@ -34,21 +34,21 @@ use Rattle.cb_worker.specs.Moving.{new_worker}
 use Rattle.cb_worker.specs.Workers.{WorkerState, after_hit, may_hit, shows_copy, with_client}
 
 pub new_stations_have_opened : NewStationsHaveOpened
-new_stations_have_opened limits store station sound new mailbox hands = record {
+new_stations_have_opened limits store station sound new opened = record {
   sound = sound;
   server = anew new;
-  hands = hands;
-  mailbox = mailbox;
+  hands = opened.hands;
+  mailbox = opened.mailbox;
   nobody = λ client. refl;
   nothing = refl;
 }
 
 pub resumed_stations_have_opened : ResumedStationsHaveOpened
-resumed_stations_have_opened limits store floor station sound least most resumed mailbox hands = record {
+resumed_stations_have_opened limits store floor station sound least most resumed opened = record {
   sound = sound;
   server = in_life floor least most resumed;
-  hands = hands;
-  mailbox = mailbox;
+  hands = opened.hands;
+  mailbox = opened.mailbox;
   nobody = λ client. refl;
   nothing = refl;
 }
@@ -213,10 +213,10 @@ hits_are_steps old c page bytes k was is hit =
     (sym (ap (λ (o : Option Bytes). unwrap_or o []) (lent k page bytes [] hit)))
 
 pub flushes_are_steps : FlushesAreSteps
-flushes_are_steps old number after can posts hands = record {
+flushes_are_steps old number after can flushed = record {
   can = can;
-  posts = posts;
-  hands = hands;
+  posts = flushed.posts can;
+  hands = flushed.hands;
   workers = λ client. refl;
   silent = refl;
 }

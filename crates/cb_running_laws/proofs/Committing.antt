@@ -36,7 +36,7 @@ use Rattle.cb_running_laws.specs.Steps as steps
 use Rattle.cb_running_laws.specs.Worlds.{IsWorldClient}
 use Rattle.cb_worker.proofs.Keeping.{as_it_was, fixed_alone}
 use Rattle.cb_worker.proofs.Staying.{IsSameOne, commits_same}
-use Rattle.cb_worker.specs.Calls.{Committed}
+use Rattle.cb_station.specs.Calls.{Committed}
 use Rattle.cb_worker.specs.Committing.{CommitsAt, FinishesOrAgain, IsCommitting}
 use Rattle.cb_worker.specs.Workers.{WorkerState, seen_by}
 use Rattle.cb_worker.specs.declared.worker_fault.WorkerFault.{WorkerFault}

@@ -20,7 +20,8 @@ use Rattle.cb_running_laws.specs.Programs.{IsSound, Program, limits_in}
 use Rattle.cb_running_laws.specs.Steps as steps
 use Rattle.cb_running_laws.specs.Steps.{CallsClient, Moment, Runs, performs, program_after}
 use Rattle.cb_worker.specs.Committing.{CommitsAt}
-use Rattle.cb_worker.specs.Entering.{HasLimits, Joined, JoinsAndTells, JoinsWith, Left, Restarted}
+use Rattle.cb_station.specs.Entering.{Joined, Left, Restarted}
+use Rattle.cb_worker.specs.Entering.{HasLimits, JoinsAndTells, JoinsWith}
 use Rattle.cb_worker.specs.Moving as moving
 use Rattle.cb_worker.specs.Moving.{IsCalled, Move, Moved, MovesBy, new_worker}
 use Rattle.cb_worker.specs.Turns.{Turns}

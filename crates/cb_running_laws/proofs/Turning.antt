@@ -42,7 +42,7 @@ use Rattle.cb_running_laws.specs.Steps.{Becomes, IsSilent}
 use Rattle.cb_running_laws.specs.Steps as steps
 use Rattle.cb_running_laws.specs.Worlds.{IsSaidBy, IsSentTo, IsWorldClient}
 use Rattle.cb_worker.proofs.Staying.{IsSameOne, stays_so, turned_same}
-use Rattle.cb_worker.specs.Calls.{Collected, Took}
+use Rattle.cb_station.specs.Calls.{Collected, Took}
 use Rattle.cb_worker.specs.Turns.{AfterCollecting, TakesCollected, TurnsBy, without_first}
 use Rattle.cb_worker.specs.Workers.{IsOf, WorkerState}
 use Rattle.cb_worker.specs.declared.worker_fault.WorkerFault.{WorkerFault}

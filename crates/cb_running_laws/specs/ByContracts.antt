@@ -2,21 +2,22 @@
 -- premises, and says which step it is, of whatever program it was called in.
 use Rattle.std.specs.Prelude.{◌≡◌, ◌≤◌, ◌∷◌, ℕ, true, List, [], Bool, Option, Some, None, Result}
 use Rattle.std.specs.Prelude.{Ok}
-use Rattle.std.specs.Prelude.{⊤, replicate}
+use Rattle.std.specs.Prelude.{⊤}
 use Rattle.cb_client.specs.CallAnswers.{Begins, Writes}
 use Rattle.cb_client_core.specs.ClientState.{IsClient}
 use Rattle.cb_commit.specs.Stores as stores
 use Rattle.cb_commit.specs.Stores.{StoreState}
 use Rattle.cb_hands.specs.Hands.{HandState}
-use Rattle.cb_mailboxes.specs.Dispatching.{Everybody, Posts}
 use Rattle.cb_page.specs.Bounds.{Bounds}
-use Rattle.cb_protocol.specs.AnyMessages.{ReachesDisk}
 use Rattle.cb_protocol.specs.Basics.{Bytes, max_number, update}
 use Rattle.cb_protocol.specs.ClientCalls.{CallBegin, CallRead, CallWrite}
 use Rattle.cb_protocol.specs.Flush.{can_flush}
 use Rattle.cb_protocol.specs.Serial.{Put, Saw}
 use Rattle.cb_server.specs.ServerValue.{IsNew, IsResumed}
-use Rattle.cb_station.specs.Stations.{IsUnchanged, StationState, forgot, mailbox_of, server_of}
+use Rattle.cb_station.specs.Entering.{Joined, Left, Restarted}
+use Rattle.cb_station.specs.Opening.{IsOpened}
+use Rattle.cb_station.specs.Reporting.{Flushed}
+use Rattle.cb_station.specs.Stations.{IsUnchanged, StationState, forgot, server_of}
 use Rattle.cb_station.specs.Telling as telling
 use Rattle.cb_station.specs.Telling.{untold_in, with_untold}
 use Rattle.cb_running_laws.specs.Laws.{Lends}
@@ -26,7 +27,7 @@ use Rattle.cb_running_laws.specs.Steps.{CallClient, Commit, Does, Flush, Forget,
 use Rattle.cb_running_laws.specs.Steps.{Refuse, Moment, Restart, Runs, Tell, Turn, operation_of}
 use Rattle.cb_running_laws.specs.Steps.{program_after}
 use Rattle.cb_worker.specs.Committing.{CommitsAt}
-use Rattle.cb_worker.specs.Entering.{Joined, Left, LeavesSome, Restarted}
+use Rattle.cb_worker.specs.Entering.{LeavesSome}
 use Rattle.cb_worker.specs.Moving.{HasJoined, HasRestarted, IsStill, new_worker}
 use Rattle.cb_worker.specs.Turns.{Turns}
 use Rattle.cb_worker.specs.Waiting.{Fetches}
@@ -50,16 +51,14 @@ with_worker program station client worker = record program {
 abbrev pub NewStationsHaveOpened : Type 0
 NewStationsHaveOpened = (limits : Bounds) (store : StoreState) (station : StationState)
     → stores.IsSound store → IsNew limits store station.dispatcher.server
-    → ((client : ℕ) → mailbox_of station client ≡ [])
-    → station.hands ≡ replicate limits.clients None → HasOpened limits store (opened station)
+    → IsOpened limits station → HasOpened limits store (opened station)
 
 -- `Station::resume`
 abbrev pub ResumedStationsHaveOpened : Type 0
 ResumedStationsHaveOpened = (limits : Bounds) (store : StoreState) (floor : ℕ)
     (station : StationState) → stores.IsSound store → 1 ≤ floor → floor ≤ max_number
     → IsResumed limits store floor station.dispatcher.server
-    → ((client : ℕ) → mailbox_of station client ≡ [])
-    → station.hands ≡ replicate limits.clients None → HasOpened limits store (opened station)
+    → IsOpened limits station → HasOpened limits store (opened station)
 
 -- `Station::join`, as `Worker::join` makes it, where it passes the station's limits
 abbrev pub JoinsAreSteps : Type 0
@@ -126,9 +125,7 @@ HitsAreSteps = (old : Program) (client page : ℕ) (bytes : Bytes) (worker : Wor
 abbrev pub FlushesAreSteps : Type 0
 FlushesAreSteps = (old : Program) (number : ℕ) (after : StationState)
     → can_flush (server_of old.station) number ≡ true
-    → Posts old.station.dispatcher (ReachesDisk number) (mailbox_of old.station) Everybody
-    after.dispatcher
-    → after.hands ≡ old.station.hands
+    → Flushed old.station number (Ok tt) after
     → Does old (Flush number) (record old { station = after })
 
 -- `Station::forget`

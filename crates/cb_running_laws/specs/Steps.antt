@@ -13,11 +13,11 @@ use Rattle.cb_protocol.specs.ClientCalls.{Call, CallRead, CallWrite}
 use Rattle.cb_protocol.specs.Flush.{can_flush}
 use Rattle.cb_protocol.specs.Messages.{Message}
 use Rattle.cb_protocol.specs.Serial.{Operation, PerformedOperation, Put, Saw}
+use Rattle.cb_station.specs.Entering.{Joined, Left, Restarted}
 use Rattle.cb_station.specs.Stations.{IsUnchanged, forgot, mailbox_of, server_of}
 use Rattle.cb_station.specs.Telling.{untold_in, with_untold}
 use Rattle.cb_running_laws.specs.Programs.{IsSound, Program, limits_in}
 use Rattle.cb_worker.specs.Committing.{CommitsAt}
-use Rattle.cb_worker.specs.Entering.{Joined, Left, Restarted}
 use Rattle.cb_worker.specs.Moving.{new_worker}
 use Rattle.cb_worker.specs.Turns as turning
 use Rattle.cb_worker.specs.Workers.{WorkerState, last_txn}

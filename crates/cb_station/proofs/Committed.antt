@@ -1,5 +1,5 @@
 -- What a commit that was taken, and noted, leaves.
-use Rattle.std.proofs.Common.{◌≡◌, ◌<◌, ◌≤◌, ℕ, Bool, true, List, [], ◌∷◌, ◌++◌, length, map, refl, sym, ◌∙◌, ap, subst, true≢false}
+use Rattle.std.proofs.Common.{◌≡◌, ◌<◌, ◌≤◌, ℕ, Bool, true, false, Ok, List, [], ◌∷◌, ◌++◌, length, map, refl, sym, ◌∙◌, ap, subst, true≢false}
 use Rattle.std.specs.List.{All, AllByRecursion}
 use Rattle.std.proofs.lemmas.List.Elements.{All-from_recursion}
 use Rattle.cb_frame.specs.Grammar.{BodyFits, page_of}
@@ -18,9 +18,10 @@ use Rattle.cb_protocol.specs.AnyMessages.{MessageComes}
 use Rattle.cb_protocol.specs.CommitLaws.{IsApplied}
 use Rattle.cb_protocol.specs.Messages as protocol
 use Rattle.cb_server.specs.ServerValue.{IsServer}
-use Rattle.cb_server.specs.Taking.{Does, input_of}
+use Rattle.cb_server.specs.Taking.{Does, input_of, lacks_number_for}
 use Rattle.cb_station.proofs.Calls.{commits_by, writes_within}
 use Rattle.cb_station.proofs.Holding.{holds_committed}
+use Rattle.cb_station.specs.Calls.{Committed}
 use Rattle.cb_station.specs.Commits.{AllowsCommit, is_live, txn_in, txn_of, writes_in, writes_of}
 use Rattle.cb_station.specs.Moves.{IsEntryOf, IsOwn, committed, is_commit}
 use Rattle.cb_station.specs.Stations.{IsStation, StationState, mailbox_of, server_of}
@@ -85,3 +86,20 @@ module _ (old : StationState) (frame : Frame) (hand : HandState) (reads : List B
 
       does : Does old.dispatcher.server (MessageComes frame.client frame.incarnation (protocol.Commit (txn_of frame) (page_writes (writes_of frame)))) (messages_of posts.said) new.dispatcher.server
       does = subst (λ (b : protocol.Body). Does old.dispatcher.server (MessageComes frame.client frame.incarnation b) (messages_of posts.said) new.dispatcher.server) (commit_says frame.body allowed.own.1) posts.does
+
+  -- so it is a commit that was taken
+  pub noted_committed : (new : StationState) (other : HandState) → IsStation old → IsServer new.dispatcher.server → Posts old.dispatcher (input_of frame) (mailbox_of old) Everybody new.dispatcher → lacks_number_for old.dispatcher.server frame ≡ false
+      → new.history ≡ old.history ++ entry ∷ [] → other ≡ without_permissions (all_restamped hand entry.writes.items number) → Follow old.hands new.hands hand other → new.flags ≡ old.flags
+      → Committed old frame reads hand (Ok number) (record new { flags = record old.flags { news = true } }) other
+  noted_committed new other is arises posts taken history becomes follow flags = record {
+    refused = tt;
+    err = tt;
+    allowed = allowed;
+    entry = (entry, history, entered);
+    posts = posts;
+    applied = (noted_commit new other is arises posts history becomes follow flags).1;
+    taken = taken;
+    moved = noted_hand other becomes;
+    stored = follow;
+    flags = refl;
+  }

@@ -12,7 +12,7 @@
 -- Returning: what is given back has no row any more.
 -- Written: what a client wrote it still holds, by what is stored.
 -- Holding: what a client wrote it still holds, after each call.
--- Admitting: what a commit is answered, by why it is refused or that it is allowed.
+-- Admitting: what a commit that is refused is answered.
 -- Telling: a station stays one whoever is told, and whatever threads tell each other.
 -- Committed: what a commit that was taken, and noted, leaves.
 -- Reporting: what a station has on disk once a batch is reported.

@@ -8,5 +8,8 @@ pub mod FaultTexts
 pub mod Offices
 pub mod Locking
 pub mod Copies
+pub mod Calls
+pub mod Entering
+pub mod Opening
 pub mod Written
 pub mod Reporting

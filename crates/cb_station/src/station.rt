@@ -1,8 +1,7 @@
 //! The type, its opening, and what it shows.
 ghost use Rattle.std.specs.Prelude.{◌≡◌, ◌≢◌, ◌↔◌, ◌<◌, ◌≤◌, ◌+◌, ℕ, [], true, false, IfErr};
-ghost use Rattle.std.specs.Prelude.{IfOk, IfSome, IsSome, IsTrue, None, OnErr, OnOk, Ok, replicate};
+ghost use Rattle.std.specs.Prelude.{IfOk, IfSome, IsSome, IsTrue, OnErr, OnOk, Ok};
 ghost use Rattle.std.specs.Option.{option_map};
-ghost use Rattle.cb_admission.specs.Windows.{IsNew as IsNewWindow};
 ghost use Rattle.cb_hands.specs.Agreement.{Meet};
 ghost use Rattle.cb_commit.specs.History.{CatchesUp};
 ghost use Rattle.cb_commit.specs.Stores.{IsOf};
@@ -12,7 +11,8 @@ ghost use Rattle.cb_mailboxes.specs.Mail.{HasMail};
 ghost use Rattle.cb_station.specs.Moves.{IsKnown, IsOwn};
 ghost use Rattle.cb_station.specs.Stations.{IsStation, forgot, mailbox_of, remembered, server_of};
 ghost use Rattle.cb_station.specs.declared.office_fault.OfficeFault.TheVariants as office;
-ghost use Rattle.cb_station.specs.Telling.{IsTold, untold_in, with_untold};
+ghost use Rattle.cb_station.specs.Opening.{IsOpened};
+ghost use Rattle.cb_station.specs.Telling.{untold_in, with_untold};
 ghost use Rattle.cb_page.specs.Clients.{has, without};
 ghost use Rattle.cb_page.specs.Numbers.{max_number};
 ghost use Rattle.cb_protocol.specs.Flush.{can_flush, next_batch};
@@ -108,21 +108,7 @@ impl Station {
         requires plain { limits.now.keep_write ≡ false }
         ensures new { IfOk result (λ station.
             IsNew limits.now store station.dispatcher.server) }
-        ensures mailbox { IfOk result (λ station.
-            (client : ℕ) → mailbox_of station client ≡ []) }
-        ensures hands { IfOk result (λ station.
-            station.hands ≡ replicate limits.now.clients None) }
-        ensures history { IfOk result (λ station. station.history ≡ []) }
-        ensures flags { IfOk result (λ station. station.flags ≡ record {
-          closed = false;
-          halted = false;
-          left = 1;
-          working = 0;
-          window = station.flags.window;
-          news = false;
-        }) }
-        ensures window { IfOk result (λ station. IsNewWindow station.flags.window) }
-        ensures told { IfOk result IsTold }
+        ensures opened { IfOk result (IsOpened limits.now) }
     {
         Ok(Station {
             dispatcher: Dispatcher::new(alloc, limits, store)?,
@@ -145,21 +131,7 @@ impl Station {
         requires plain { limits.now.keep_write ≡ false }
         ensures resumed { IfOk result (λ station.
             IsResumed limits.now store floor station.dispatcher.server) }
-        ensures mailbox { IfOk result (λ station.
-            (client : ℕ) → mailbox_of station client ≡ []) }
-        ensures hands { IfOk result (λ station.
-            station.hands ≡ replicate limits.now.clients None) }
-        ensures history { IfOk result (λ station. station.history ≡ []) }
-        ensures flags { IfOk result (λ station. station.flags ≡ record {
-          closed = false;
-          halted = false;
-          left = 1;
-          working = 0;
-          window = station.flags.window;
-          news = false;
-        }) }
-        ensures window { IfOk result (λ station. IsNewWindow station.flags.window) }
-        ensures told { IfOk result IsTold }
+        ensures opened { IfOk result (IsOpened limits.now) }
     {
         let clients = limits.clients();
         Ok(Station {

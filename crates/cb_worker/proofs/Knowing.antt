@@ -42,4 +42,4 @@ turn_knows known old new before after r is t = by old.said old.collected t
 -- so behind a commit that was taken
 pub commit_knows : (known : Bool) (old new : WorkerState) (before after : StationState) (number : ℕ) → IsKnown known before old.hand → CommitsAt old before (Ok number) new after → IsKnown known after new.hand
 commit_knows known old new before after number is h =
-    stays known before after old.hand new.hand (Ok number) is (λ no. h.committed.foreign.1 (λ own. no own.0.held)) h.committed.stored h.committed.err
+    stays known before after old.hand new.hand (Ok number) is (λ no. absurd (no h.committed.allowed.own.0.held)) h.committed.stored h.committed.err

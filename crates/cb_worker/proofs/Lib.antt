@@ -7,8 +7,6 @@
 -- Chain: from the read of a page to its commit.
 -- Kept: the frames that are kept to be handed in.
 -- Saying: how a transaction's commit is said, and said again.
--- Numbering: a commit that was taken had a number left.
--- Owning: what a station answers to a commit whose frame is handed over.
 -- Turning: what a turn leaves.
 -- Knowing: a hand that a station knows stays known, and one that it doesn't know stays unknown.
 -- Standing: what the client's words of its transaction mean.
@@ -30,8 +28,6 @@ pub mod Written
 pub mod Chain
 pub mod Kept
 pub mod Saying
-pub mod Numbering
-pub mod Owning
 pub mod Turning
 pub mod Knowing
 pub mod Standing

@@ -12,7 +12,7 @@ use Rattle.cb_station.specs.declared.office_fault.OfficeFault.{OfficeFault}
 use Rattle.cb_station.specs.declared.office_fault.OfficeFault.TheVariants as office
 use Rattle.cb_protocol.specs.Basics.{Bytes}
 use Rattle.cb_worker.proofs.Reading.{after_read_is, bytes_here, read_so}
-use Rattle.cb_worker.specs.Calls.{Collected, Took}
+use Rattle.cb_station.specs.Calls.{Collected, Took}
 use Rattle.cb_worker.specs.Refusals.{IsTurnFault, LacksGrant}
 use Rattle.cb_worker.specs.Turns.{AfterCollecting, TakesCollected, Turns, TurnsBy, turned_by}
 use Rattle.cb_worker.specs.Workers.{WorkerState, shows_copy}

@@ -25,7 +25,7 @@ use Rattle.cb_station.specs.Stations.{StationState}
 use Rattle.cb_station.specs.declared.office_fault.OfficeFault.{OfficeFault}
 use Rattle.cb_worker.proofs.Standing.{is_then}
 use Rattle.cb_worker.proofs.Written.{SaysAlike, alike_pages, are_written, committing_busy, says_alike}
-use Rattle.cb_worker.specs.Calls.{Committed}
+use Rattle.cb_station.specs.Calls.{Committed}
 use Rattle.cb_worker.specs.Workers.{HasTransaction, WorkerState, seen_by, with_client}
 use Rattle.cb_worker.specs.Moving.{IsStill}
 use Rattle.cb_worker.specs.Committing.{AreLocked, FinishesOrAgain, HandsCommitIn, HandsFrameIn, IsCommitting, RefusesFrame}

@@ -37,7 +37,7 @@ use Rattle.cb_protocol.specs.Serial.{Operation}
 use Rattle.cb_protocol.specs.Server.{Server}
 use Rattle.cb_worker.proofs.Keeping.{fixed_alone, then_fixed}
 use Rattle.cb_worker.proofs.Using.{after_read_fixed, dropped_fixed, finishes_used, hit_used, same_used, takes_used, wants_used}
-use Rattle.cb_worker.specs.Calls.{Collected, Committed, Took}
+use Rattle.cb_station.specs.Calls.{Collected, Committed, Took}
 use Rattle.cb_worker.specs.Committing.{CommitsAt, FinishesOrAgain, HandsCommitIn}
 use Rattle.cb_worker.specs.Turns.{AfterCollecting, Collects, HandsIn, TakesCollected, Turns, TurnsBy, without_first}
 use Rattle.cb_worker.specs.Workers.{IsOf, WorkerState, after_hit, last_txn, may_hit, seen_by, with_client}

@@ -5,7 +5,7 @@ use Rattle.cb_frame.specs.declared.frame.Frame.{Frame}
 use Rattle.cb_hands.specs.Hands.{HandState}
 use Rattle.cb_station.specs.Stations.{StationState}
 use Rattle.cb_station.specs.declared.office_fault.OfficeFault.{OfficeFault}
-use Rattle.cb_worker.specs.Calls.{Collected}
+use Rattle.cb_station.specs.Calls.{Collected}
 use Rattle.cb_worker.specs.Turns.{AfterCollecting, Collects, HandsIn, TakesCollected, Turns, TurnsBy, turned_by}
 use Rattle.cb_worker.specs.Waiting.{IsServed}
 use Rattle.cb_worker.specs.Workers.{WorkerState}

@@ -14,7 +14,7 @@ use Rattle.cb_page.specs.Flags.{has}
 use Rattle.cb_protocol.specs.Client.{StatusCommitting, client_status}
 use Rattle.cb_protocol.specs.ClientCalls.{CallFinish}
 use Rattle.cb_protocol.specs.Serial.{Operation}
-use Rattle.cb_worker.specs.Calls.{Committed}
+use Rattle.cb_station.specs.Calls.{Committed}
 use Rattle.cb_worker.specs.Keeping.{AreWritten}
 use Rattle.cb_worker.specs.Workers.{WorkerState, seen_by}
 use Rattle.cb_worker.specs.declared.worker_fault.WorkerFault.{WorkerFault}

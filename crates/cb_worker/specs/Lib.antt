@@ -1,6 +1,5 @@
 pub mod Keeping
 pub mod Workers
-pub mod Calls
 pub mod Turns
 pub mod Committing
 pub mod Moving

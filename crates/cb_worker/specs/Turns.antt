@@ -11,7 +11,7 @@ use Rattle.cb_station.specs.Stations.{StationState}
 use Rattle.cb_station.specs.declared.office_fault.OfficeFault.{OfficeFault}
 use Rattle.cb_station.specs.declared.office_fault.OfficeFault.TheVariants as office
 use Rattle.cb_outbox.specs.Messages.{messages_of}
-use Rattle.cb_worker.specs.Calls.{Collected, Took}
+use Rattle.cb_station.specs.Calls.{Collected, Took}
 use Rattle.cb_worker.specs.Workers.{WorkerState}
 use Rattle.cb_worker.specs.declared.worker_fault.WorkerFault.{WorkerFault}
 use Rattle.cb_worker.specs.declared.worker_fault.WorkerFault.TheVariants as worker

@@ -1,15 +1,8 @@
 //! A client collects what was sent to it.
-ghost use Rattle.std.specs.Prelude.{◌≡◌, ◌↔◌, ◌<◌, ◌⊎◌, ◌&&◌, ℕ, Err, None, Some};
-ghost use Rattle.std.specs.Prelude.{length, IfErr, IfOk, IfSome, OnErr, OnOk, slice_get};
-ghost use Rattle.cb_mailboxes.specs.Dispatching.{without_oldest};
-ghost use Rattle.cb_mailboxes.specs.Mail.{IsMailFor};
+ghost use Rattle.std.specs.Prelude.{◌≡◌, ◌<◌, ◌&&◌, ℕ, length};
 ghost use Rattle.cb_hands.specs.Joined.{Follow, IsHeld};
-ghost use Rattle.cb_station.specs.Copies.{BringsCopy};
-ghost use Rattle.cb_station.specs.Moves.{IsKnown, collected, is_lasting, received, received_of};
-ghost use Rattle.cb_station.specs.Moves.{told};
-ghost use Rattle.cb_station.specs.Stations.{IsUnchanged, mailbox_of, server_of};
-ghost use Rattle.cb_station.specs.Telling.{untold_in};
-ghost use Rattle.cb_station.specs.declared.office_fault.OfficeFault.TheVariants as office;
+ghost use Rattle.cb_station.specs.Calls.{Collected};
+ghost use Rattle.cb_station.specs.Moves.{IsKnown, is_lasting, received, received_of, told};
 ghost use Rattle.cb_protocol.specs.Server.{is_write_holder};
 ghost use Rattle.cb_server_state.specs.States.{HasClient, HasPage, PartsAgree};
 ghost use Rattle.cb_server_state.specs.States.{server_of as server_in};
@@ -30,26 +23,7 @@ impl Station {
     ///
     /// `Foreign` exactly if the hand isn't the one stored; `Memory` only if a growth was refused.
     pub fn collect(&mut self, hand: &mut Hand) -> Result<Option<Frame>, OfficeFault>
-        ensures foreign { (result ≡ Err office.Foreign)
-            ↔ (IsHeld self.old.hands hand.old → ⊥) }
-        ensures faults { IfErr result (λ fault.
-            (fault ≡ office.Foreign) ⊎ (fault ≡ office.Memory)) }
-        ensures err { OnErr result (IsUnchanged self.old self.new × (hand.new ≡ hand.old)) }
-        ensures oldest { IfOk result (λ frame.
-            frame ≡ slice_get (mailbox_of self.old hand.old.client) 0) }
-        ensures sent { IfOk result (λ frame.
-            IfSome frame (IsMailFor (server_of self.old) hand.old.client)) }
-        ensures brings { IfOk result (λ frame.
-            IfSome frame (BringsCopy (server_of self.old) hand.old hand.new)) }
-        ensures rest { OnOk result ((client : ℕ) → mailbox_of self.new client
-            ≡ without_oldest (mailbox_of self.old) hand.old.client client) }
-        ensures server { self.new.dispatcher.server ≡ self.old.dispatcher.server }
-        ensures untold { untold_in self.new ≡ untold_in self.old }
-        ensures hand { IfOk result (λ frame.
-            hand.new ≡ collected (server_of self.old) hand.old frame) }
-        ensures stored { OnOk result (Follow self.old.hands self.new.hands hand.old hand.new) }
-        ensures history { self.new.history ≡ self.old.history }
-        ensures flags { self.new.flags ≡ self.old.flags }
+        ensures { Collected self.old hand.old result self.new hand.new }
     {
         let known = self.knows(hand);
         self.collect_if_known(hand, known)
@@ -62,26 +36,7 @@ impl Station {
         known: bool,
     ) -> Result<Option<Frame>, OfficeFault>
         requires known { IsKnown known self.old hand.old }
-        ensures foreign { (result ≡ Err office.Foreign)
-            ↔ (IsHeld self.old.hands hand.old → ⊥) }
-        ensures faults { IfErr result (λ fault.
-            (fault ≡ office.Foreign) ⊎ (fault ≡ office.Memory)) }
-        ensures err { OnErr result (IsUnchanged self.old self.new × (hand.new ≡ hand.old)) }
-        ensures oldest { IfOk result (λ frame.
-            frame ≡ slice_get (mailbox_of self.old hand.old.client) 0) }
-        ensures sent { IfOk result (λ frame.
-            IfSome frame (IsMailFor (server_of self.old) hand.old.client)) }
-        ensures brings { IfOk result (λ frame.
-            IfSome frame (BringsCopy (server_of self.old) hand.old hand.new)) }
-        ensures rest { OnOk result ((client : ℕ) → mailbox_of self.new client
-            ≡ without_oldest (mailbox_of self.old) hand.old.client client) }
-        ensures server { self.new.dispatcher.server ≡ self.old.dispatcher.server }
-        ensures untold { untold_in self.new ≡ untold_in self.old }
-        ensures hand { IfOk result (λ frame.
-            hand.new ≡ collected (server_of self.old) hand.old frame) }
-        ensures stored { OnOk result (Follow self.old.hands self.new.hands hand.old hand.new) }
-        ensures history { self.new.history ≡ self.old.history }
-        ensures flags { self.new.flags ≡ self.old.flags }
+        ensures { Collected self.old hand.old result self.new hand.new }
     {
         if !known {
             return Err(OfficeFault::Foreign);

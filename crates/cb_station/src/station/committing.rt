@@ -1,21 +1,14 @@
 //! A client commits.
-ghost use Rattle.std.specs.Prelude.{◌≡◌, ◌↔◌, ◌⊎◌, ◌+◌, ◌<◌, ◌≤◌, ◌++◌, ◌∷◌, [], true};
-ghost use Rattle.std.specs.Prelude.{false, Err, IfErr, IfOk, OnErr, OnOk, length};
+ghost use Rattle.std.specs.Prelude.{◌≡◌, ◌<◌, ◌++◌, ◌∷◌, [], true, IfErr, IfOk, OnOk, length};
 ghost use Rattle.std.specs.List.{All};
 ghost use Rattle.cb_hands.specs.Hands.{without_permissions};
 ghost use Rattle.cb_hands.specs.OwnHand.{all_restamped};
-ghost use Rattle.cb_mailboxes.specs.Dispatching.{Everybody, Posts};
-ghost use Rattle.cb_hands.specs.declared.entry.Entry.{Entry as Noted};
 ghost use Rattle.cb_hands.specs.Joined.{Follow, IsHeld};
-ghost use Rattle.cb_station.specs.Commits.{AllowsCommit, IsLive, IsOwnCommit, IsPermitted};
-ghost use Rattle.cb_station.specs.Commits.{RefusesCommit, answer_of, is_live, txn_of, writes_of};
-ghost use Rattle.cb_station.specs.Moves.{IsEntryOf, IsKnown, committed, is_commit};
-ghost use Rattle.cb_station.specs.Stations.{IsUnchanged, mailbox_of, server_of};
-ghost use Rattle.cb_station.specs.declared.office_fault.OfficeFault.TheVariants as office;
-ghost use Rattle.cb_outbox.specs.Messages.{page_writes};
-ghost use Rattle.cb_page.specs.Numbers.{max_number};
-ghost use Rattle.cb_protocol.specs.CommitLaws.{IsApplied};
-ghost use Rattle.cb_server.specs.Taking.{input_of};
+ghost use Rattle.cb_station.specs.Calls.{Committed};
+ghost use Rattle.cb_station.specs.Commits.{AllowsCommit, RefusesCommit, answer_of, is_live, txn_of};
+ghost use Rattle.cb_station.specs.Commits.{writes_of};
+ghost use Rattle.cb_station.specs.Moves.{IsEntryOf, IsKnown, is_commit};
+ghost use Rattle.cb_station.specs.Stations.{server_of};
 
 use crate::office_fault::OfficeFault;
 use crate::reading::{holds_all, may_write_all, pages_of, reads_of};
@@ -44,38 +37,7 @@ impl Station {
         reads: &PageSet,
         hand: &mut Hand,
     ) -> Result<CommitNo, OfficeFault>
-        ensures foreign { (result ≡ Err office.Foreign)
-            ↔ (IsOwnCommit self.old frame.now hand.old → ⊥) }
-        ensures not_held { (result ≡ Err office.NotHeld)
-            ↔ (IsOwnCommit self.old frame.now hand.old
-            × (IsPermitted hand.old reads.now frame.now → ⊥)) }
-        ensures not_live { (result ≡ Err office.NotLive)
-            ↔ (IsOwnCommit self.old frame.now hand.old
-            × IsPermitted hand.old reads.now frame.now
-            × (IsLive (server_of self.old) frame.now → ⊥)) }
-        ensures exhausted { (result ≡ Err office.Exhausted)
-            ↔ (IsOwnCommit self.old frame.now hand.old
-            × IsPermitted hand.old reads.now frame.now × IsLive (server_of self.old) frame.now
-            × (max_number ≤ (server_of self.old).store.last_commit)) }
-        ensures faults { IfErr result (λ fault. (fault ≡ office.Foreign)
-            ⊎ (fault ≡ office.NotHeld) ⊎ (fault ≡ office.NotLive) ⊎ (fault ≡ office.Exhausted)
-            ⊎ (fault ≡ office.Memory)) }
-        ensures err { OnErr result (IsUnchanged self.old self.new × (hand.new ≡ hand.old)) }
-        ensures number { IfOk result (λ number.
-            number ≡ (server_of self.old).store.last_commit + 1) }
-        ensures entry { OnOk result ((entry : Noted)
-            × (self.new.history ≡ self.old.history ++ entry ∷ [])
-            × IsEntryOf hand.old (txn_of frame.now) (writes_of frame.now) reads.now entry) }
-        ensures posts { OnOk result (Posts self.old.dispatcher (input_of frame.now)
-            (mailbox_of self.old) Everybody self.new.dispatcher) }
-        ensures applied { OnOk result (IsApplied (server_of self.old) (server_of self.new)
-            hand.old.client hand.old.incarnation (txn_of frame.now)
-            (page_writes (writes_of frame.now))) }
-        ensures hand { IfOk result (λ number.
-            hand.new ≡ committed hand.old (writes_of frame.now) number) }
-        ensures stored { OnOk result (Follow self.old.hands self.new.hands hand.old hand.new) }
-        ensures flags { OnOk result
-            (self.new.flags ≡ record self.old.flags { news = true }) }
+        ensures { Committed self.old frame.now reads.now hand.old result self.new hand.new }
     {
         let known = self.knows(hand);
         let number = self.number_for(frame, reads, hand, known)?;
@@ -101,38 +63,9 @@ impl Station {
         known: bool,
     ) -> Result<CommitNo, (OfficeFault, Frame)>
         requires known { IsKnown known self.old hand.old }
-        ensures foreign { (answer_of result ≡ Err office.Foreign)
-            ↔ (IsOwnCommit self.old frame hand.old → ⊥) }
-        ensures not_held { (answer_of result ≡ Err office.NotHeld)
-            ↔ (IsOwnCommit self.old frame hand.old
-            × (IsPermitted hand.old reads.now frame → ⊥)) }
-        ensures not_live { (answer_of result ≡ Err office.NotLive)
-            ↔ (IsOwnCommit self.old frame hand.old × IsPermitted hand.old reads.now frame
-            × (IsLive (server_of self.old) frame → ⊥)) }
-        ensures exhausted { (answer_of result ≡ Err office.Exhausted)
-            ↔ (IsOwnCommit self.old frame hand.old × IsPermitted hand.old reads.now frame
-            × IsLive (server_of self.old) frame
-            × (max_number ≤ (server_of self.old).store.last_commit)) }
-        ensures faults { IfErr result (λ refused. (refused.0 ≡ office.Foreign)
-            ⊎ (refused.0 ≡ office.NotHeld) ⊎ (refused.0 ≡ office.NotLive)
-            ⊎ (refused.0 ≡ office.Exhausted) ⊎ (refused.0 ≡ office.Memory)) }
+        ensures committed { Committed self.old frame reads.now hand.old (answer_of result)
+            self.new hand.new }
         ensures back { IfErr result (λ refused. refused.1 ≡ frame) }
-        ensures err { OnErr result (IsUnchanged self.old self.new × (hand.new ≡ hand.old)) }
-        ensures number { IfOk result (λ number.
-            number ≡ (server_of self.old).store.last_commit + 1) }
-        ensures entry { OnOk result ((entry : Noted)
-            × (self.new.history ≡ self.old.history ++ entry ∷ [])
-            × IsEntryOf hand.old (txn_of frame) (writes_of frame) reads.now entry) }
-        ensures posts { OnOk result (Posts self.old.dispatcher (input_of frame)
-            (mailbox_of self.old) Everybody self.new.dispatcher) }
-        ensures applied { OnOk result (IsApplied (server_of self.old) (server_of self.new)
-            hand.old.client hand.old.incarnation (txn_of frame)
-            (page_writes (writes_of frame))) }
-        ensures hand { IfOk result (λ number.
-            hand.new ≡ committed hand.old (writes_of frame) number) }
-        ensures stored { OnOk result (Follow self.old.hands self.new.hands hand.old hand.new) }
-        ensures flags { OnOk result
-            (self.new.flags ≡ record self.old.flags { news = true }) }
     {
         let number = match self.number_for(&frame, reads, hand, known) {
             Ok(number) => number,

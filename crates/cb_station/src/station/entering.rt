@@ -1,15 +1,9 @@
 //! Clients join, begin another incarnation, and leave.
-ghost use Rattle.std.specs.Prelude.{◌≡◌, ◌≢◌, ◌↔◌, ◌+◌, ◌<◌, ◌≤◌, None, Some, Ok, Err, true};
-ghost use Rattle.std.specs.Prelude.{◌⊎◌, [], IfErr, IfOk, OnErr, OnOk, slice_set};
-ghost use Rattle.std.specs.Option.{is_some};
-ghost use Rattle.cb_mailboxes.specs.Dispatching.{Everybody, Others, Posts, emptied};
-ghost use Rattle.cb_hands.specs.Hands.{empty_hand};
-ghost use Rattle.cb_hands.specs.Joined.{Follow, IsHeld, stored_at};
-ghost use Rattle.cb_station.specs.Stations.{IsUnchanged, mailbox_of, server_of};
+ghost use Rattle.std.specs.Prelude.{◌≡◌, ◌+◌, ◌<◌, ◌≤◌, IfErr, IfOk, OnOk};
+ghost use Rattle.cb_station.specs.Entering.{Joined, Left, Restarted};
+ghost use Rattle.cb_station.specs.Stations.{server_of};
 ghost use Rattle.cb_station.specs.declared.office_fault.OfficeFault.TheVariants as office;
 ghost use Rattle.cb_page.specs.Numbers.{max_number};
-ghost use Rattle.cb_protocol.specs.AnyMessages.{MessageComes};
-ghost use Rattle.cb_protocol.specs.Messages.{Hello};
 
 use crate::office_fault::OfficeFault;
 use crate::station::Station;
@@ -22,27 +16,7 @@ impl Station {
     /// no such client, `Joined` if it has joined, `Exhausted` if no incarnation is left, `Memory`
     /// only if a growth was refused.
     pub fn join(&mut self, alloc: Global, client: ClientNo) -> Result<Hand, OfficeFault>
-        ensures foreign { (result ≡ Err office.Foreign)
-            ↔ (self.old.dispatcher.server.limits.clients ≤ client) }
-        ensures joined { (result ≡ Err office.Joined)
-            ↔ (is_some (stored_at self.old.hands client) ≡ true) }
-        ensures exhausted { (result ≡ Err office.Exhausted)
-            ↔ ((client < self.old.dispatcher.server.limits.clients)
-            × (stored_at self.old.hands client ≡ None)
-            × (max_number ≤ ((server_of self.old).session client).current)) }
-        ensures others { (result ≢ Err office.NotHeld) × (result ≢ Err office.NotLive)
-            × (result ≢ Err office.Old) }
-        ensures err { OnErr result (IsUnchanged self.old self.new) }
-        ensures hand { IfOk result (λ hand. hand ≡ empty_hand client
-            (((server_of self.old).session client).current + 1)
-            self.old.dispatcher.server.limits.pages) }
-        ensures posts { OnOk result (Posts self.old.dispatcher
-            (MessageComes client (((server_of self.old).session client).current + 1) Hello)
-            (emptied (mailbox_of self.old) client) Everybody self.new.dispatcher) }
-        ensures hands { IfOk result (λ hand.
-            self.new.hands ≡ slice_set self.old.hands client (Some hand)) }
-        ensures history { self.new.history ≡ self.old.history }
-        ensures flags { self.new.flags ≡ self.old.flags }
+        ensures { Joined self.old client result self.new }
     {
         let limits = self.dispatcher.server().limits();
         if !limits.has_client(client.get()) {
@@ -95,24 +69,7 @@ impl Station {
         hand: Hand,
         incarnation: Incarnation,
     ) -> Result<Hand, (OfficeFault, Hand)>
-        ensures refused { IfErr result (λ refused. (refused.1 ≡ hand)
-            × IsUnchanged self.old self.new) }
-        ensures foreign { IfErr result (λ refused.
-            (refused.0 ≡ office.Foreign) ↔ (IsHeld self.old.hands hand → ⊥)) }
-        ensures old { IfErr result (λ refused. (refused.0 ≡ office.Old)
-            ↔ (IsHeld self.old.hands hand × (incarnation ≤ hand.incarnation))) }
-        ensures faults { IfErr result (λ refused. (refused.0 ≡ office.Foreign)
-            ⊎ (refused.0 ≡ office.Old) ⊎ (refused.0 ≡ office.Memory)) }
-        ensures ok { OnOk result
-            (IsHeld self.old.hands hand × (hand.incarnation < incarnation)) }
-        ensures hand { IfOk result (λ next.
-            next ≡ empty_hand hand.client incarnation self.old.dispatcher.server.limits.pages) }
-        ensures posts { OnOk result (Posts self.old.dispatcher
-            (MessageComes hand.client incarnation Hello)
-            (emptied (mailbox_of self.old) hand.client) Everybody self.new.dispatcher) }
-        ensures stored { IfOk result (λ next. Follow self.old.hands self.new.hands hand next) }
-        ensures history { self.new.history ≡ self.old.history }
-        ensures flags { self.new.flags ≡ self.old.flags }
+        ensures { Restarted self.old hand incarnation result self.new }
     {
         if !self.hands.knows(&hand) {
             return Err((OfficeFault::Foreign, hand));
@@ -137,24 +94,7 @@ impl Station {
     /// the one stored, `Exhausted` if no incarnation is left, `Memory` only if a growth was
     /// refused.
     pub fn leave(&mut self, alloc: Global, hand: Hand) -> Result<(), (OfficeFault, Hand)>
-        ensures refused { IfErr result (λ refused. (refused.1 ≡ hand)
-            × IsUnchanged self.old self.new) }
-        ensures foreign { IfErr result (λ refused.
-            (refused.0 ≡ office.Foreign) ↔ (IsHeld self.old.hands hand → ⊥)) }
-        ensures exhausted { IfErr result (λ refused. (refused.0 ≡ office.Exhausted)
-            ↔ (IsHeld self.old.hands hand × (max_number ≤ hand.incarnation))) }
-        ensures faults { IfErr result (λ refused. (refused.0 ≡ office.Foreign)
-            ⊎ (refused.0 ≡ office.Exhausted) ⊎ (refused.0 ≡ office.Memory)) }
-        ensures ok { OnOk result
-            (IsHeld self.old.hands hand × (hand.incarnation < max_number)) }
-        ensures posts { OnOk result (Posts self.old.dispatcher
-            (MessageComes hand.client (hand.incarnation + 1) Hello)
-            (mailbox_of self.old) (Others hand.client) self.new.dispatcher) }
-        ensures silent { OnOk result (mailbox_of self.new hand.client ≡ []) }
-        ensures hands { OnOk result
-            (self.new.hands ≡ slice_set self.old.hands hand.client None) }
-        ensures history { self.new.history ≡ self.old.history }
-        ensures flags { self.new.flags ≡ self.old.flags }
+        ensures { Left self.old hand result self.new }
     {
         if !self.hands.knows(&hand) {
             return Err((OfficeFault::Foreign, hand));

@@ -1,15 +1,9 @@
 //! The frames of a client, and what is flushed.
-ghost use Rattle.std.specs.Prelude.{◌≡◌, ◌↔◌, ◌⊎◌, ◌<◌, ◌≤◌, true, false, IfErr, Ok};
-ghost use Rattle.std.specs.Prelude.{Err, OnErr, OnOk, max};
-ghost use Rattle.cb_mailboxes.specs.Dispatching.{Everybody, Posts};
+ghost use Rattle.std.specs.Prelude.{◌≡◌, false};
 ghost use Rattle.cb_hands.specs.Joined.{Follow, IsHeld};
-ghost use Rattle.cb_station.specs.Moves.{IsKnown, IsOwn, ended_if_over, given_back, is_plain};
-ghost use Rattle.cb_station.specs.Moves.{is_stray};
-ghost use Rattle.cb_station.specs.Stations.{IsUnchanged, mailbox_of, server_of};
-ghost use Rattle.cb_station.specs.declared.office_fault.OfficeFault.TheVariants as office;
-ghost use Rattle.cb_protocol.specs.AnyMessages.{ReachesDisk};
-ghost use Rattle.cb_protocol.specs.Flush.{can_flush};
-ghost use Rattle.cb_server.specs.Taking.{input_of, lacks_number_for};
+ghost use Rattle.cb_station.specs.Calls.{Took};
+ghost use Rattle.cb_station.specs.Moves.{IsKnown, ended_if_over, given_back, is_plain, is_stray};
+ghost use Rattle.cb_station.specs.Reporting.{Flushed};
 ghost use Rattle.cb_server_state.specs.States.{HasClient, PartsAgree};
 ghost use Rattle.cb_server_state.specs.States.{server_of as server_in};
 
@@ -32,27 +26,7 @@ impl Station {
     /// one stored. Otherwise `Exhausted` exactly if the server has no number left for the frame.
     /// Otherwise `Memory`, only if a growth was refused.
     pub fn take(&mut self, alloc: Global, frame: &Frame, hand: &mut Hand) -> Result<(), OfficeFault>
-        ensures foreign { (result ≡ Err office.Foreign) ↔ (IsOwn self.old frame.now hand.old
-            × (is_plain frame.now.body ≡ true) → ⊥) }
-        ensures exhausted { (result ≡ Err office.Exhausted) ↔ (IsOwn self.old frame.now hand.old
-            × (is_plain frame.now.body ≡ true)
-            × (lacks_number_for self.old.dispatcher.server frame.now ≡ true)) }
-        ensures faults { IfErr result (λ fault. (fault ≡ office.Foreign)
-            ⊎ (fault ≡ office.Exhausted) ⊎ (fault ≡ office.Memory)) }
-        ensures err { OnErr result (IsUnchanged self.old self.new × (hand.new ≡ hand.old)) }
-        ensures stray { OnOk result (is_stray hand.old frame.now.body ≡ true
-            → IsUnchanged self.old self.new × (hand.new ≡ hand.old)) }
-        ensures posts { OnOk result (is_stray hand.old frame.now.body ≡ false
-            → Posts self.old.dispatcher (input_of frame.now) (mailbox_of self.old) Everybody
-            self.new.dispatcher) }
-        ensures taken { OnOk result
-            (lacks_number_for self.old.dispatcher.server frame.now ≡ false) }
-        ensures hand { OnOk result (is_stray hand.old frame.now.body ≡ false
-            → hand.new
-            ≡ ended_if_over (server_of self.new) (given_back hand.old frame.now.body)) }
-        ensures stored { OnOk result (Follow self.old.hands self.new.hands hand.old hand.new) }
-        ensures history { self.new.history ≡ self.old.history }
-        ensures flags { self.new.flags ≡ self.old.flags }
+        ensures { Took self.old frame.now hand.old result self.new hand.new }
     {
         let known = self.knows(hand);
         self.take_if_known(alloc, frame, hand, known)
@@ -67,27 +41,7 @@ impl Station {
         known: bool,
     ) -> Result<(), OfficeFault>
         requires known { IsKnown known self.old hand.old }
-        ensures foreign { (result ≡ Err office.Foreign) ↔ (IsOwn self.old frame.now hand.old
-            × (is_plain frame.now.body ≡ true) → ⊥) }
-        ensures exhausted { (result ≡ Err office.Exhausted) ↔ (IsOwn self.old frame.now hand.old
-            × (is_plain frame.now.body ≡ true)
-            × (lacks_number_for self.old.dispatcher.server frame.now ≡ true)) }
-        ensures faults { IfErr result (λ fault. (fault ≡ office.Foreign)
-            ⊎ (fault ≡ office.Exhausted) ⊎ (fault ≡ office.Memory)) }
-        ensures err { OnErr result (IsUnchanged self.old self.new × (hand.new ≡ hand.old)) }
-        ensures stray { OnOk result (is_stray hand.old frame.now.body ≡ true
-            → IsUnchanged self.old self.new × (hand.new ≡ hand.old)) }
-        ensures posts { OnOk result (is_stray hand.old frame.now.body ≡ false
-            → Posts self.old.dispatcher (input_of frame.now) (mailbox_of self.old) Everybody
-            self.new.dispatcher) }
-        ensures taken { OnOk result
-            (lacks_number_for self.old.dispatcher.server frame.now ≡ false) }
-        ensures hand { OnOk result (is_stray hand.old frame.now.body ≡ false
-            → hand.new
-            ≡ ended_if_over (server_of self.new) (given_back hand.old frame.now.body)) }
-        ensures stored { OnOk result (Follow self.old.hands self.new.hands hand.old hand.new) }
-        ensures history { self.new.history ≡ self.old.history }
-        ensures flags { self.new.flags ≡ self.old.flags }
+        ensures { Took self.old frame.now hand.old result self.new hand.new }
     {
         if !is_plain(&frame.body) || !self.is_own(frame, hand, known) {
             return Err(OfficeFault::Foreign);
@@ -109,19 +63,7 @@ impl Station {
     /// commit, or it was on disk already. `Memory` only if a growth was refused; the same batch may
     /// be reported again then.
     pub fn flushed(&mut self, alloc: Global, written: &Written) -> Result<(), OfficeFault>
-        ensures number { OnOk result
-            (written.now ≤ (server_of self.old).store.last_commit
-            → (server_of self.new).flushed ≡ max written.now (server_of self.old).flushed) }
-        ensures idle { can_flush (server_of self.old) written.now ≡ false
-            → (result ≡ Ok tt) × IsUnchanged self.old self.new }
-        ensures posts { OnOk result (can_flush (server_of self.old) written.now ≡ true
-            → Posts self.old.dispatcher (ReachesDisk written.now) (mailbox_of self.old) Everybody
-            self.new.dispatcher) }
-        ensures faults { IfErr result (λ fault. fault ≡ office.Memory) }
-        ensures err { OnErr result (IsUnchanged self.old self.new) }
-        ensures hands { self.new.hands ≡ self.old.hands }
-        ensures history { self.new.history ≡ self.old.history }
-        ensures flags { self.new.flags ≡ self.old.flags }
+        ensures { Flushed self.old written.now result self.new }
     {
         let number = written.number();
         if !self.dispatcher.server().can_flush(number) {

@@ -7,7 +7,7 @@ use Rattle.cb_station.specs.Stations.{IsStored, StationState, mailbox_of, server
 use Rattle.cb_mailboxes.specs.Dispatching as dispatching
 use Rattle.cb_mailboxes.specs.Dispatching.{without_oldest}
 use Rattle.cb_hands.specs.Hands.{HandState}
-use Rattle.cb_hands.specs.Joined.{IsHeld}
+use Rattle.cb_hands.specs.Joined.{Follow, IsHeld}
 use Rattle.cb_server.specs.ServerValue.{ServerValue, commits_of}
 use Rattle.cb_station.specs.Moves.{collected}
 use Rattle.cb_station.proofs.Remembering.{still_forgotten}
@@ -55,23 +55,29 @@ invariant_of-self-2 c =
       holds_collected c.self.inside.dispatcher.server c.collect.new.self.server c.self.inside.dispatcher.server.limits.pages (Some c.in-Some.frame) c.args.hand.now c.take_in.new.hand c.self.inside.hands c.take_in.new.hands c.collect.ensures.server held stored other c.take_in.ensures.stored c.self.invariant.2,
     )
 
-pub returns-clause-rest : goal.returns-clause-rest
-returns-clause-rest c =
-    subst (λ (v : StationState). (client : ℕ) → dispatching.mailbox_of c.collect.new.self client ≡ without_oldest (mailbox_of v) c.args.hand.now.client client) c.self.view_is
-    (subst (λ (k : ℕ). (client : ℕ) → dispatching.mailbox_of c.collect.new.self client ≡ without_oldest (dispatching.mailbox_of c.self.inside.dispatcher) k client) c.client.ensures c.in_ok-frame.ensures.rest)
-
-pub returns-clause-sent : goal.returns-clause-sent
-returns-clause-sent c =
-    let sent : IsMailFor (dispatching.server_of c.self.inside.dispatcher) c.args.hand.now.client c.in-Some.frame = subst (λ (k : ℕ). IsMailFor (dispatching.server_of c.self.inside.dispatcher) k c.in-Some.frame) c.client.ensures
-    (subst (λ (o : Option Frame). IfSome o (IsMailFor (dispatching.server_of c.self.inside.dispatcher) c.client.result)) c.in-Some.is c.in_ok-frame.ensures.sent) in
-    subst (λ (v : StationState). IsMailFor (server_of v) c.args.hand.now.client c.in-Some.frame) c.self.view_is sent
-
-pub returns-clause-brings : goal.returns-clause-brings
-returns-clause-brings c =
+pub returns : goal.returns
+returns c =
     let held : IsHeld c.self.inside.hands c.args.hand.now = subst (λ (v : StationState). IsHeld v.hands c.args.hand.now) (sym c.self.view_is) (c.requires.known.0 (search rules)) in
+    let rest : (client : ℕ) → dispatching.mailbox_of c.collect.new.self client ≡ without_oldest (dispatching.mailbox_of c.self.inside.dispatcher) c.args.hand.now.client client =
+    subst (λ (k : ℕ). (client : ℕ) → dispatching.mailbox_of c.collect.new.self client ≡ without_oldest (dispatching.mailbox_of c.self.inside.dispatcher) k client) c.client.ensures c.in_ok-frame.ensures.rest in
     let sent : IsMailFor (dispatching.server_of c.self.inside.dispatcher) c.args.hand.now.client c.in-Some.frame = subst (λ (k : ℕ). IsMailFor (dispatching.server_of c.self.inside.dispatcher) k c.in-Some.frame) c.client.ensures
     (subst (λ (o : Option Frame). IfSome o (IsMailFor (dispatching.server_of c.self.inside.dispatcher) c.client.result)) c.in-Some.is c.in_ok-frame.ensures.sent) in
     let state : c.state-state.result.now ≡ c.self.inside.dispatcher.server.state = c.state-state.ensures.value ∙ ap (λ (x : ServerValue). x.state) (c.server.ensures.value ∙ c.collect.ensures.server) in
-    subst (λ (v : StationState). BringsCopy (server_of v) c.args.hand.now c.take_in.new.hand c.in-Some.frame) c.self.view_is
-    (brings (dispatching.server_of c.self.inside.dispatcher) c.self.inside.hands c.args.hand.now c.take_in.new.hand c.in-Some.frame c.self.invariant.2 held (c.self.invariant.0.hand c.args.hand.now.client c.args.hand.now held).current sent
-    (c.take_in.ensures.hand ∙ received_by c.self.inside.dispatcher.server c.state-state.result.now c.args.hand.now c.in-Some.frame.body state))
+    let moved : c.take_in.new.hand ≡ collected (dispatching.server_of c.self.inside.dispatcher) c.args.hand.now (Some c.in-Some.frame) =
+    c.take_in.ensures.hand ∙ received_by c.self.inside.dispatcher.server c.state-state.result.now c.args.hand.now c.in-Some.frame.body state in
+    record {
+      foreign = search rules;
+      faults = tt;
+      err = tt;
+      oldest = search rules;
+      sent = subst (λ (v : StationState). IsMailFor (server_of v) c.args.hand.now.client c.in-Some.frame) c.self.view_is sent;
+      brings = subst (λ (v : StationState). BringsCopy (server_of v) c.args.hand.now c.take_in.new.hand c.in-Some.frame) c.self.view_is
+          (brings (dispatching.server_of c.self.inside.dispatcher) c.self.inside.hands c.args.hand.now c.take_in.new.hand c.in-Some.frame c.self.invariant.2 held (c.self.invariant.0.hand c.args.hand.now.client c.args.hand.now held).current sent moved);
+      rest = subst (λ (v : StationState). (client : ℕ) → dispatching.mailbox_of c.collect.new.self client ≡ without_oldest (mailbox_of v) c.args.hand.now.client client) c.self.view_is rest;
+      server = search rules;
+      untold = search rules;
+      moved = subst (λ (v : StationState). c.take_in.new.hand ≡ collected (server_of v) c.args.hand.now (Some c.in-Some.frame)) c.self.view_is moved;
+      stored = subst (λ (v : StationState). Follow v.hands c.take_in.new.hands c.args.hand.now c.take_in.new.hand) c.self.view_is c.take_in.ensures.stored;
+      history = search rules;
+      flags = search rules;
+    }

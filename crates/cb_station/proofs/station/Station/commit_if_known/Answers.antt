@@ -1,37 +1,21 @@
 -- Goals of `Station::commit_if_known`.
-use Rattle.std.proofs.Common.{◌++◌, ◌∷◌, [], List, refl, sym, ap, ◌∙◌, subst}
+use Rattle.std.proofs.Common.{rules, true, Ok, ◌++◌, ◌∷◌, [], List, refl, sym, ap, ◌∙◌, subst}
 use Rattle.cb_frame.specs.Grammar.{Fits}
-use Rattle.cb_hands.specs.Joined.{Follow, IsHeld}
+use Rattle.cb_hands.specs.Joined.{IsHeld}
 use Rattle.cb_hands.specs.declared.entry.Entry.{Entry}
-use Rattle.cb_mailboxes.specs.Dispatching.{Everybody, Posts}
-use Rattle.cb_outbox.specs.Messages.{page_writes}
-use Rattle.cb_protocol.specs.CommitLaws.{IsApplied}
-use Rattle.cb_server.specs.Taking.{input_of}
-use Rattle.cb_station.proofs.Admitting.{answered_refusal}
-use Rattle.cb_station.proofs.Committed.{entry_within, noted_commit, noted_hand, noted_holds}
+use Rattle.cb_station.proofs.Admitting.{lacks_memory, refuses}
+use Rattle.cb_station.proofs.Committed.{entry_within, noted_commit, noted_committed, noted_holds}
 use Rattle.cb_station.proofs.Remembering.{still_forgotten}
 use Rattle.cb_station.proofs.Stations.{unchanged_station}
 use Rattle.cb_station.proofs.Telling.{noted_flags, with_flags}
-use Rattle.cb_station.specs.Commits.{AllowsCommit, txn_of, writes_of}
-use Rattle.cb_station.specs.Stations.{StationState, mailbox_of, server_of}
+use Rattle.cb_station.specs.Calls.{Committed}
+use Rattle.cb_station.specs.Commits.{AllowsCommit}
+use Rattle.cb_station.specs.Stations.{StationState}
 use Rattle.cb_station.proofs.Holding.{holds_unchanged}
 use Rattle.cb_station.proofs.station.Station.commit_if_known.Goals as goal
 
-pub returns-in-Err-clause-foreign : goal.returns-in-Err-clause-foreign
-returns-in-Err-clause-foreign c =
-    (answered_refusal c.args.self.now c.args.frame c.args.hand.now c.args.reads.now c.in-Err.fault c.in-Err.ensures.refused).foreign
-
-pub returns-in-Err-clause-not_held : goal.returns-in-Err-clause-not_held
-returns-in-Err-clause-not_held c =
-    (answered_refusal c.args.self.now c.args.frame c.args.hand.now c.args.reads.now c.in-Err.fault c.in-Err.ensures.refused).not_held
-
-pub returns-in-Err-clause-not_live : goal.returns-in-Err-clause-not_live
-returns-in-Err-clause-not_live c =
-    (answered_refusal c.args.self.now c.args.frame c.args.hand.now c.args.reads.now c.in-Err.fault c.in-Err.ensures.refused).not_live
-
-pub returns-in-Err-clause-exhausted : goal.returns-in-Err-clause-exhausted
-returns-in-Err-clause-exhausted c =
-    (answered_refusal c.args.self.now c.args.frame c.args.hand.now c.args.reads.now c.in-Err.fault c.in-Err.ensures.refused).exhausted
+pub returns-in-Err-clause-committed : goal.returns-in-Err-clause-committed
+returns-in-Err-clause-committed c = refuses c.args.self.now _ c.args.frame c.args.reads.now c.args.hand.now _ c.in-Err.fault c.in-Err.ensures.refused (search rules) (search rules)
 
 pub entry_of-requires : goal.entry_of-requires
 entry_of-requires c = c.in-Ok.ensures.allowed.own.1
@@ -65,28 +49,10 @@ invariant_of-self-in-Ok-take_owned c =
           (record { dispatcher = c.take_owned.new.self; hands = c.note.new.hands; history = c.note.new.history.items; flags = c.self.inside.flags }) c.note.new.hand c.self.invariant.0 posts c.note.ensures.hand c.note.ensures.stored c.self.invariant.2,
     )
 
-pub returns-in-Ok-take_owned-clause-entry : goal.returns-in-Ok-take_owned-clause-entry
-returns-in-Ok-take_owned-clause-entry c = (
-  c.in-Ok-entry_of.entry,
-  c.note.ensures.history ∙ ap (λ (h : List Entry). h ++ c.in-Ok-entry_of.entry ∷ []) c.entry_of.ensures.same ∙ ap (λ (v : StationState). v.history ++ c.in-Ok-entry_of.entry ∷ []) c.self.view_is,
-  c.in-Ok-entry_of.ensures.entry,
-)
-
-pub returns-in-Ok-take_owned-clause-posts : goal.returns-in-Ok-take_owned-clause-posts
-returns-in-Ok-take_owned-clause-posts c =
-    subst (λ (v : StationState). Posts v.dispatcher (input_of c.args.frame) (mailbox_of v) Everybody c.take_owned.new.self) c.self.view_is (c.in-Ok-take_owned.ensures.ok)
-
-pub returns-in-Ok-take_owned-clause-applied : goal.returns-in-Ok-take_owned-clause-applied
-returns-in-Ok-take_owned-clause-applied c =
-    let posts = c.in-Ok-take_owned.ensures.ok in
+pub returns-in-Ok-take_owned-clause-committed : goal.returns-in-Ok-take_owned-clause-committed
+returns-in-Ok-take_owned-clause-committed c =
     let allowed = subst (λ (v : StationState). AllowsCommit v c.args.frame c.args.hand.now c.args.reads.now c.in-Ok.number) (sym c.self.view_is) c.in-Ok.ensures.allowed in
-    let noted = noted_commit (record { dispatcher = c.self.inside.dispatcher; hands = c.self.inside.hands; history = c.self.inside.history.items; flags = c.self.inside.flags }) c.args.frame c.args.hand.now c.args.reads.now c.in-Ok.number allowed c.in-Ok-entry_of.entry c.in-Ok-entry_of.ensures.entry
-    (record { dispatcher = c.take_owned.new.self; hands = c.note.new.hands; history = c.note.new.history.items; flags = c.self.inside.flags }) c.note.new.hand c.self.invariant.0 c.in-Ok-take_owned.ensures.arose posts
-    (c.note.ensures.history ∙ ap (λ (h : List Entry). h ++ c.in-Ok-entry_of.entry ∷ []) c.entry_of.ensures.same) c.note.ensures.hand c.note.ensures.stored refl in
-    subst (λ (v : StationState). IsApplied (server_of v) (server_of (record { dispatcher = c.take_owned.new.self; hands = c.note.new.hands; history = c.note.new.history.items; flags = c.self.inside.flags })) c.args.hand.now.client c.args.hand.now.incarnation (txn_of c.args.frame) (page_writes (writes_of c.args.frame))) c.self.view_is noted.1
-
-pub returns-in-Ok-take_owned-clause-hand : goal.returns-in-Ok-take_owned-clause-hand
-returns-in-Ok-take_owned-clause-hand c = noted_hand c.args.self.now c.args.frame c.args.hand.now c.args.reads.now c.in-Ok.number c.in-Ok.ensures.allowed c.in-Ok-entry_of.entry c.in-Ok-entry_of.ensures.entry c.note.new.hand c.note.ensures.hand
-
-pub returns-in-Ok-take_owned-clause-stored : goal.returns-in-Ok-take_owned-clause-stored
-returns-in-Ok-take_owned-clause-stored c = subst (λ (v : StationState). Follow v.hands c.note.new.hands c.args.hand.now c.note.new.hand) c.self.view_is c.note.ensures.stored
+    let noted = noted_committed (record { dispatcher = c.self.inside.dispatcher; hands = c.self.inside.hands; history = c.self.inside.history.items; flags = c.self.inside.flags }) c.args.frame c.args.hand.now c.args.reads.now c.in-Ok.number allowed c.in-Ok-entry_of.entry c.in-Ok-entry_of.ensures.entry
+    (record { dispatcher = c.take_owned.new.self; hands = c.note.new.hands; history = c.note.new.history.items; flags = c.self.inside.flags }) c.note.new.hand c.self.invariant.0 c.in-Ok-take_owned.ensures.arose
+    c.in-Ok-take_owned.ensures.ok c.in-Ok-take_owned.ensures.taken (c.note.ensures.history ∙ ap (λ (h : List Entry). h ++ c.in-Ok-entry_of.entry ∷ []) c.entry_of.ensures.same) c.note.ensures.hand c.note.ensures.stored refl in
+    subst (λ (v : StationState). Committed v c.args.frame c.args.reads.now c.args.hand.now (Ok c.in-Ok.number) (record { dispatcher = c.take_owned.new.self; hands = c.note.new.hands; history = c.note.new.history.items; flags = record c.self.inside.flags { news = true } }) c.note.new.hand) c.self.view_is noted

@@ -1,5 +1,5 @@
 -- Goals of `Station::flushed`.
-use Rattle.std.proofs.Common.{◌≡◌, ℕ, true, false, refl, rules, sym, ap, ◌∙◌, subst}
+use Rattle.std.proofs.Common.{◌≡◌, ℕ, true, false, true≢false, refl, rules, sym, ap, ◌∙◌, subst}
 use Rattle.cb_mailboxes.specs.Dispatching.{Everybody, Posts}
 use Rattle.cb_station.proofs.Calls.{flushed_station}
 use Rattle.cb_station.proofs.Stations.{unchanged_station}
@@ -30,17 +30,33 @@ invariant_of-self-2 c = (
 pub flushed-requires : goal.flushed-requires
 flushed-requires c = sym (c.can_flush.ensures ∙ ap (λ (x : ServerValue). can_flush (server_in x) c.number-number.result) c.server.ensures.value) ∙ c.if-not-can_flush.false
 
-pub returns-clause-posts : goal.returns-clause-posts
-returns-clause-posts c = λ e.
-    subst (λ (n : ℕ). Posts c.args.self.now.dispatcher (ReachesDisk n) (mailbox_of c.args.self.now) Everybody c.flushed.new.self) c.number-number.ensures
-    (subst (λ (v : StationState). Posts v.dispatcher (ReachesDisk c.number-number.result) (mailbox_of v) Everybody c.flushed.new.self) c.self.view_is c.in_ok-flushed.ensures.ok)
-
-pub returns-then-not-can_flush-clause-number : goal.returns-then-not-can_flush-clause-number
-returns-then-not-can_flush-clause-number c = λ made.
+pub returns-then-not-can_flush : goal.returns-then-not-can_flush
+returns-then-not-can_flush c =
     let is : can_flush (server_of c.args.self.now) c.args.written.now ≡ false = search rules in
-    still_flushed (server_of c.args.self.now) c.args.written.now is made
+    record {
+      number = λ made. still_flushed (server_of c.args.self.now) c.args.written.now is made;
+      idle = search rules;
+      posts = λ can. absurd (true≢false (sym can ∙ is));
+      faults = tt;
+      err = tt;
+      hands = search rules;
+      history = search rules;
+      flags = search rules;
+    }
 
-pub returns-clause-number : goal.returns-clause-number
-returns-clause-number c = λ made.
+pub returns : goal.returns
+returns c =
     let is : can_flush (server_of c.args.self.now) c.args.written.now ≡ true = search rules in
-    greater_flushed c.args.self.now (record { dispatcher = c.flushed.new.self; hands = c.self.inside.hands; history = c.self.inside.history.items; flags = c.self.inside.flags }) c.args.written.now is (returns-clause-posts c is)
+    let posts : Posts c.args.self.now.dispatcher (ReachesDisk c.args.written.now) (mailbox_of c.args.self.now) Everybody c.flushed.new.self =
+    subst (λ (n : ℕ). Posts c.args.self.now.dispatcher (ReachesDisk n) (mailbox_of c.args.self.now) Everybody c.flushed.new.self) c.number-number.ensures
+    (subst (λ (v : StationState). Posts v.dispatcher (ReachesDisk c.number-number.result) (mailbox_of v) Everybody c.flushed.new.self) c.self.view_is c.in_ok-flushed.ensures.ok) in
+    record {
+      number = λ made. greater_flushed c.args.self.now (record { dispatcher = c.flushed.new.self; hands = c.self.inside.hands; history = c.self.inside.history.items; flags = c.self.inside.flags }) c.args.written.now is posts;
+      idle = λ can_not. absurd (true≢false (sym is ∙ can_not));
+      posts = λ can. posts;
+      faults = tt;
+      err = tt;
+      hands = search rules;
+      history = search rules;
+      flags = search rules;
+    }

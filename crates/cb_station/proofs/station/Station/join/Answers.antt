@@ -29,13 +29,24 @@ invariant_of-self-then-is_err c =
           (left_again c.self.inside.hands c.join.new.self c.leave.new.self c.args.client c.in_ok-hand.hand name none c.in_ok-hand.ensures.stored c.leave.ensures) c.self.invariant.2,
     )
 
-pub returns-then-is_err-clause-err : goal.returns-then-is_err-clause-err
-returns-then-is_err-clause-err c =
+pub returns-then-is_err : goal.returns-then-is_err
+returns-then-is_err c =
     let failed : is_err c.greet.result ≡ true = sym c.is_err.ensures.value ∙ c.if-is_err.true in
     let none : stored_at c.self.inside.hands c.args.client ≡ None = search rules in
     let name : c.in_ok-hand.hand.client ≡ c.args.client = ap (λ (h : HandState). h.client) c.in_ok-hand.ensures.hand in
-    subst (λ (v : StationState). IsUnchanged v (record { dispatcher = c.greet.new.self; hands = c.leave.new.self; history = c.self.inside.history.items; flags = c.self.inside.flags })) c.self.view_is
-    (record { dispatcher = err_fact c.greet.result _ failed c.greet.ensures.unchanged; hands = left_again c.self.inside.hands c.join.new.self c.leave.new.self c.args.client c.in_ok-hand.hand name none c.in_ok-hand.ensures.stored c.leave.ensures; history = refl; flags = refl })
+    record {
+      foreign = search rules;
+      joined = search rules;
+      exhausted = search rules;
+      others = search rules;
+      err = subst (λ (v : StationState). IsUnchanged v (record { dispatcher = c.greet.new.self; hands = c.leave.new.self; history = c.self.inside.history.items; flags = c.self.inside.flags })) c.self.view_is
+          (record { dispatcher = err_fact c.greet.result _ failed c.greet.ensures.unchanged; hands = left_again c.self.inside.hands c.join.new.self c.leave.new.self c.args.client c.in_ok-hand.hand name none c.in_ok-hand.ensures.stored c.leave.ensures; history = refl; flags = refl });
+      hand = tt;
+      posts = tt;
+      hands = tt;
+      history = search rules;
+      flags = search rules;
+    }
 
 pub leave-requires : goal.leave-requires
 leave-requires c =
@@ -59,9 +70,20 @@ invariant_of-self-else-is_err c =
           (omega (arith, next)) (c.in_ok-hand.ensures.hand ∙ ap (λ (n : ℕ). empty_hand c.args.client c.in_ok-incarnation.incarnation n) pages) c.in_ok-hand.ensures.stored,
     )
 
-pub returns-clause-posts : goal.returns-clause-posts
-returns-clause-posts c =
+pub returns : goal.returns
+returns c =
     let done : is_err c.greet.result ≡ false = sym c.is_err.ensures.value ∙ c.if-is_err.false in
     let posts = ok_fact c.greet.result _ done c.greet.ensures.ok in
-    subst (λ (n : ℕ). Posts c.args.self.now.dispatcher (MessageComes c.args.client n Hello) (emptied (mailbox_of c.args.self.now) c.args.client) Everybody c.greet.new.self) c.in_ok-incarnation.ensures.ok
-    (subst (λ (v : StationState). Posts v.dispatcher (MessageComes c.args.client c.in_ok-incarnation.incarnation Hello) (emptied (mailbox_of v) c.args.client) Everybody c.greet.new.self) c.self.view_is posts)
+    record {
+      foreign = search rules;
+      joined = search rules;
+      exhausted = search rules;
+      others = search rules;
+      err = tt;
+      hand = search rules;
+      posts = subst (λ (n : ℕ). Posts c.args.self.now.dispatcher (MessageComes c.args.client n Hello) (emptied (mailbox_of c.args.self.now) c.args.client) Everybody c.greet.new.self) c.in_ok-incarnation.ensures.ok
+          (subst (λ (v : StationState). Posts v.dispatcher (MessageComes c.args.client c.in_ok-incarnation.incarnation Hello) (emptied (mailbox_of v) c.args.client) Everybody c.greet.new.self) c.self.view_is posts);
+      hands = search rules;
+      history = search rules;
+      flags = search rules;
+    }

@@ -36,16 +36,23 @@ invariant_of-self-2 c =
       holds_left c.self.inside.dispatcher.server c.dismiss.new.self.server c.self.invariant.0.arisen c.client-client.result c.in-Some.incarnation (messages_of posts.said) posts.does c.self.inside.hands c.leave.new.self c.self.invariant.0.clients lt c.self.invariant.2 (c.leave.ensures ∙ ap (λ (k : ℕ). slice_set c.self.inside.hands k none) (sym c.client-client.ensures)),
     )
 
-pub returns-clause-posts : goal.returns-clause-posts
-returns-clause-posts c =
+pub returns : goal.returns
+returns c =
     let done : is_err c.dismiss.result ≡ false = sym c.is_err.ensures.value ∙ c.if-is_err.false in
     let posts = ok_fact c.dismiss.result _ done c.dismiss.ensures.ok in
     let number : c.in-Some.incarnation ≡ c.args.hand.incarnation + 1 = c.in-Some.ensures.value ∙ ap (λ (n : ℕ). n + 1) c.incarnation.ensures in
-    subst (λ (v : StationState). Posts v.dispatcher (MessageComes c.args.hand.client (c.args.hand.incarnation + 1) Hello) (mailbox_of v) (Others c.args.hand.client) c.dismiss.new.self) c.self.view_is
-    (subst (λ (n : ℕ). Posts c.self.inside.dispatcher (MessageComes c.args.hand.client n Hello) (dispatching.mailbox_of c.self.inside.dispatcher) (Others c.args.hand.client) c.dismiss.new.self) number
-    (subst (λ (k : ℕ). Posts c.self.inside.dispatcher (MessageComes k c.in-Some.incarnation Hello) (dispatching.mailbox_of c.self.inside.dispatcher) (Others k) c.dismiss.new.self) c.client-client.ensures posts))
-
-pub returns-clause-hands : goal.returns-clause-hands
-returns-clause-hands c =
     let none : Option HandState = None in
-    c.leave.ensures ∙ ap (λ (v : StationState). slice_set v.hands c.args.hand.client none) c.self.view_is
+    record {
+      refused = tt;
+      foreign = tt;
+      exhausted = tt;
+      faults = tt;
+      ok = search rules;
+      posts = subst (λ (v : StationState). Posts v.dispatcher (MessageComes c.args.hand.client (c.args.hand.incarnation + 1) Hello) (mailbox_of v) (Others c.args.hand.client) c.dismiss.new.self) c.self.view_is
+          (subst (λ (n : ℕ). Posts c.self.inside.dispatcher (MessageComes c.args.hand.client n Hello) (dispatching.mailbox_of c.self.inside.dispatcher) (Others c.args.hand.client) c.dismiss.new.self) number
+          (subst (λ (k : ℕ). Posts c.self.inside.dispatcher (MessageComes k c.in-Some.incarnation Hello) (dispatching.mailbox_of c.self.inside.dispatcher) (Others k) c.dismiss.new.self) c.client-client.ensures posts));
+      silent = search rules;
+      hands = c.leave.ensures ∙ ap (λ (v : StationState). slice_set v.hands c.args.hand.client none) c.self.view_is;
+      history = search rules;
+      flags = search rules;
+    }

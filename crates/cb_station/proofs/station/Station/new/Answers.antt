@@ -15,7 +15,14 @@ invariant_of-result c =
       holds_new c.args.limits.now c.args.store _ _ _ c.in_ok-new.ensures.new (c.in_ok-new-2.ensures ∙ ap (λ (n : ℕ). replicate n none) c.clients.ensures.value),
     )
 
-pub returns-clause-hands : goal.returns-clause-hands
-returns-clause-hands c =
+pub returns-clause-opened : goal.returns-clause-opened
+returns-clause-opened c =
     let none : Option HandState = None in
-    c.in_ok-new-2.ensures ∙ ap (λ (n : ℕ). replicate n none) c.clients.ensures.value
+    record {
+      mailbox = search rules;
+      hands = c.in_ok-new-2.ensures ∙ ap (λ (n : ℕ). replicate n none) c.clients.ensures.value;
+      history = search rules;
+      flags = search rules;
+      window = search rules;
+      told = search rules;
+    }

@@ -44,15 +44,22 @@ invariant_of-self-2 c =
           (subst (λ (n : ℕ). n < c.args.incarnation) (sym current) greater) (c.renew.ensures.hand ∙ ap (λ (n : ℕ). empty_hand c.args.hand.client c.args.incarnation n) stored.size) c.renew.ensures.stored.hands,
     )
 
-pub returns-clause-hand : goal.returns-clause-hand
-returns-clause-hand c =
+pub returns : goal.returns
+returns c =
     let held : IsHeld c.self.inside.hands c.args.hand = search rules in
     let stored = c.self.invariant.0.hand c.args.hand.client c.args.hand held in
-    c.renew.ensures.hand ∙ ap (λ (n : ℕ). empty_hand c.args.hand.client c.args.incarnation n) (stored.size ∙ ap (λ (v : StationState). v.dispatcher.server.limits.pages) c.self.view_is)
-
-pub returns-clause-posts : goal.returns-clause-posts
-returns-clause-posts c =
     let done : is_err c.greet.result ≡ false = sym c.is_err.ensures.value ∙ c.if-is_err.false in
     let posts = ok_fact c.greet.result _ done c.greet.ensures.ok in
-    subst (λ (v : StationState). Posts v.dispatcher (MessageComes c.args.hand.client c.args.incarnation Hello) (emptied (mailbox_of v) c.args.hand.client) Everybody c.greet.new.self) c.self.view_is
-    (subst (λ (k : ℕ). Posts c.self.inside.dispatcher (MessageComes k c.args.incarnation Hello) (emptied (dispatching.mailbox_of c.self.inside.dispatcher) k) Everybody c.greet.new.self) c.client.ensures posts)
+    record {
+      refused = tt;
+      foreign = tt;
+      old = tt;
+      faults = tt;
+      ok = search rules;
+      next = c.renew.ensures.hand ∙ ap (λ (n : ℕ). empty_hand c.args.hand.client c.args.incarnation n) (stored.size ∙ ap (λ (v : StationState). v.dispatcher.server.limits.pages) c.self.view_is);
+      posts = subst (λ (v : StationState). Posts v.dispatcher (MessageComes c.args.hand.client c.args.incarnation Hello) (emptied (mailbox_of v) c.args.hand.client) Everybody c.greet.new.self) c.self.view_is
+          (subst (λ (k : ℕ). Posts c.self.inside.dispatcher (MessageComes k c.args.incarnation Hello) (emptied (dispatching.mailbox_of c.self.inside.dispatcher) k) Everybody c.greet.new.self) c.client.ensures posts);
+      stored = search rules;
+      history = search rules;
+      flags = search rules;
+    }

@@ -14,7 +14,14 @@ invariant_of-result c =
       holds_resumed c.args.limits.now c.args.store c.args.floor _ _ _ c.in_ok-resume.ensures.resumed (c.in_ok-new.ensures ∙ ap (λ (n : ℕ). replicate n none) c.clients-clients.ensures.value),
     )
 
-pub returns-clause-hands : goal.returns-clause-hands
-returns-clause-hands c =
+pub returns-clause-opened : goal.returns-clause-opened
+returns-clause-opened c =
     let none : Option HandState = None in
-    c.in_ok-new.ensures ∙ ap (λ (n : ℕ). replicate n none) c.clients-clients.ensures.value
+    record {
+      mailbox = search rules;
+      hands = c.in_ok-new.ensures ∙ ap (λ (n : ℕ). replicate n none) c.clients-clients.ensures.value;
+      history = search rules;
+      flags = search rules;
+      window = search rules;
+      told = search rules;
+    }

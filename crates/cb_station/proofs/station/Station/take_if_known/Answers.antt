@@ -46,8 +46,20 @@ invariant_of-self-2 c =
           (c.self.invariant.0.hand c.args.hand.now.client c.args.hand.now own.held) own.client own.incarnation plain there becomes follow c.self.invariant.2,
     )
 
-pub returns-clause-stored : goal.returns-clause-stored
-returns-clause-stored c =
+pub returns : goal.returns
+returns c =
     let back : c.give_back.new.hand.client ≡ c.args.hand.now.client = ap (λ (h : HandState). h.client) c.give_back.ensures.hand ∙ same_client c.args.hand.now c.args.frame.now.body in
     let follow = follow_then c.self.inside.hands c.give_back.new.hands c.end_if_over.new.hands c.args.hand.now c.give_back.new.hand c.end_if_over.new.hand c.give_back.ensures.stored c.end_if_over.ensures.stored back in
-    subst (λ (v : StationState). Follow v.hands c.end_if_over.new.hands c.args.hand.now c.end_if_over.new.hand) c.self.view_is follow
+    record {
+      foreign = search rules;
+      exhausted = search rules;
+      faults = tt;
+      err = tt;
+      stray = search rules;
+      posts = search rules;
+      taken = search rules;
+      moved = search rules;
+      stored = subst (λ (v : StationState). Follow v.hands c.end_if_over.new.hands c.args.hand.now c.end_if_over.new.hand) c.self.view_is follow;
+      history = search rules;
+      flags = search rules;
+    }

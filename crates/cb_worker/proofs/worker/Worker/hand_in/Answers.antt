@@ -5,25 +5,13 @@ use Rattle.std.specs.Prelude.{⊤}
 use Rattle.cb_station.specs.declared.office_fault.OfficeFault.{OfficeFault}
 use Rattle.cb_worker.proofs.Kept.{none_first, oldest_first}
 use Rattle.cb_worker.proofs.Turning.{hands_in}
-use Rattle.cb_worker.specs.Calls.{Took}
+use Rattle.cb_station.specs.Calls.{Took}
 use Rattle.cb_worker.specs.declared.worker_fault.WorkerFault.TheVariants as worker
 use Rattle.cb_worker.proofs.worker.Worker.hand_in.Goals as goal
 
 pub returns-in-Err-clause-turns : goal.returns-in-Err-clause-turns
 returns-in-Err-clause-turns g c =
-    let took : Took c.args.station.now c.in-Some.frame.now c.args.self.now.hand c.take_if_known.result c.take_if_known.new.self c.take_if_known.new.hand = rw (← c.self.view_is) (record {
-      foreign = c.take_if_known.ensures.foreign;
-      exhausted = c.take_if_known.ensures.exhausted;
-      faults = c.take_if_known.ensures.faults;
-      err = c.take_if_known.ensures.err;
-      stray = c.take_if_known.ensures.stray;
-      posts = c.take_if_known.ensures.posts;
-      taken = c.take_if_known.ensures.taken;
-      moved = c.take_if_known.ensures.hand;
-      stored = c.take_if_known.ensures.stored;
-      history = c.take_if_known.ensures.history;
-      flags = c.take_if_known.ensures.flags;
-    }) in
+    let took : Took c.args.station.now c.in-Some.frame.now c.args.self.now.hand c.take_if_known.result c.take_if_known.new.self c.take_if_known.new.hand = rw (← c.self.view_is) c.take_if_known.ensures in
     let first : c.args.self.now.said ≡ c.in-Some.frame.now ∷ drop 1 c.args.self.now.said = rw (← c.self.view_is) (oldest_first c.self.inside.said c.in-Some.frame.now (ap option_copied (sym c.in-Some.is) ∙ c.oldest.ensures)) in
     hands_in c.args.self.now _ c.args.station.now c.take_if_known.new.self c.in-Some.frame.now (drop 1 c.args.self.now.said) (Err (worker.Office c.in-Err.fault)) first (record {
       answer = Err c.in-Err.fault;
@@ -34,19 +22,7 @@ returns-in-Err-clause-turns g c =
 
 pub returns-in-Ok-clause-turns : goal.returns-in-Ok-clause-turns
 returns-in-Ok-clause-turns g c =
-    let took : Took c.args.station.now c.in-Some.frame.now c.args.self.now.hand c.take_if_known.result c.take_if_known.new.self c.take_if_known.new.hand = rw (← c.self.view_is) (record {
-      foreign = c.take_if_known.ensures.foreign;
-      exhausted = c.take_if_known.ensures.exhausted;
-      faults = c.take_if_known.ensures.faults;
-      err = c.take_if_known.ensures.err;
-      stray = c.take_if_known.ensures.stray;
-      posts = c.take_if_known.ensures.posts;
-      taken = c.take_if_known.ensures.taken;
-      moved = c.take_if_known.ensures.hand;
-      stored = c.take_if_known.ensures.stored;
-      history = c.take_if_known.ensures.history;
-      flags = c.take_if_known.ensures.flags;
-    }) in
+    let took : Took c.args.station.now c.in-Some.frame.now c.args.self.now.hand c.take_if_known.result c.take_if_known.new.self c.take_if_known.new.hand = rw (← c.self.view_is) c.take_if_known.ensures in
     let first : c.args.self.now.said ≡ c.in-Some.frame.now ∷ c.remove_oldest.new.self = rw (c.remove_oldest.ensures, ← c.self.view_is) (oldest_first c.self.inside.said c.in-Some.frame.now (ap option_copied (sym c.in-Some.is) ∙ c.oldest.ensures)) in
     hands_in c.args.self.now _ c.args.station.now c.take_if_known.new.self c.in-Some.frame.now c.remove_oldest.new.self (Ok true) first (record {
       answer = Ok c.in-Ok.field-0;

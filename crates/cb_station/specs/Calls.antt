@@ -1,12 +1,14 @@
--- What the station does for a worker, as its own calls say.
-use Rattle.std.specs.Prelude.{◌≡◌, ◌↔◌, ◌⊎◌, ◌++◌, ◌∷◌, ◌+◌, ◌≤◌, ℕ, Bool, true, false, List, [], ⊤}
-use Rattle.std.specs.Prelude.{Option, Result, Err, IfErr, IfOk, OnErr, OnOk, slice_get}
+-- What a station's calls do with a hand: its frames are taken, its mail is collected, it commits.
+use Rattle.std.specs.Prelude.{◌≡◌, ◌↔◌, ◌⊎◌, ◌++◌, ◌∷◌, ℕ, Bool, true, false, List, [], ⊤}
+use Rattle.std.specs.Prelude.{Option, Result, Err, IfErr, IfOk, IfSome, OnErr, OnOk, slice_get}
 use Rattle.cb_mailboxes.specs.Dispatching.{Everybody, Posts, without_oldest}
+use Rattle.cb_mailboxes.specs.Mail.{IsMailFor}
 use Rattle.cb_frame.specs.declared.frame.Frame.{Frame}
 use Rattle.cb_hands.specs.Hands.{HandState}
 use Rattle.cb_hands.specs.declared.entry.Entry.{Entry}
 use Rattle.cb_hands.specs.Joined.{Follow, IsHeld}
-use Rattle.cb_station.specs.Commits.{IsLive, IsOwnCommit, IsPermitted, txn_of, writes_of}
+use Rattle.cb_station.specs.Commits.{AllowsCommit, RefusesCommit, txn_of, writes_of}
+use Rattle.cb_station.specs.Copies.{BringsCopy}
 use Rattle.cb_station.specs.Moves.{IsEntryOf, IsOwn, collected, committed, ended_if_over}
 use Rattle.cb_station.specs.Moves.{given_back, is_plain, is_stray}
 use Rattle.cb_station.specs.Stations.{IsUnchanged, StationState, mailbox_of, server_of}
@@ -14,7 +16,6 @@ use Rattle.cb_station.specs.Telling.{untold_in}
 use Rattle.cb_station.specs.declared.office_fault.OfficeFault.{OfficeFault}
 use Rattle.cb_station.specs.declared.office_fault.OfficeFault.TheVariants as office
 use Rattle.cb_outbox.specs.Messages.{page_writes}
-use Rattle.cb_page.specs.Numbers.{max_number}
 use Rattle.cb_protocol.specs.CommitLaws.{IsApplied}
 use Rattle.cb_server.specs.Taking.{input_of, lacks_number_for}
 
@@ -48,6 +49,8 @@ pub record Collected (before : StationState) (hand : HandState)
   pub faults : IfErr result (λ fault. (fault ≡ office.Foreign) ⊎ (fault ≡ office.Memory))
   pub err : OnErr result (IsUnchanged before after × (next ≡ hand))
   pub oldest : IfOk result (λ frame. frame ≡ slice_get (mailbox_of before hand.client) 0)
+  pub sent : IfOk result (λ frame. IfSome frame (IsMailFor (server_of before) hand.client))
+  pub brings : IfOk result (λ frame. IfSome frame (BringsCopy (server_of before) hand next))
   pub rest : OnOk result ((client : ℕ)
       → mailbox_of after client ≡ without_oldest (mailbox_of before) hand.client client)
   pub server : after.dispatcher.server ≡ before.dispatcher.server
@@ -58,24 +61,14 @@ pub record Collected (before : StationState) (hand : HandState)
   pub flags : after.flags ≡ before.flags
 
 -- A commit was handed in with these reads: one entry more, of that frame and these reads, what that
--- made of both, and why it was refused.
+-- made of both, and why it was refused: the first reason that stands, else want of memory.
 pub record Committed (before : StationState) (frame : Frame) (reads : List Bool)
     (hand : HandState) (result : Result ℕ OfficeFault) (after : StationState) (next : HandState)
     : Type 0 where
-  pub foreign : (result ≡ Err office.Foreign) ↔ (IsOwnCommit before frame hand → ⊥)
-  pub not_held : (result ≡ Err office.NotHeld)
-      ↔ (IsOwnCommit before frame hand × (IsPermitted hand reads frame → ⊥))
-  pub not_live : (result ≡ Err office.NotLive)
-      ↔ (IsOwnCommit before frame hand × IsPermitted hand reads frame
-      × (IsLive (server_of before) frame → ⊥))
-  pub exhausted : (result ≡ Err office.Exhausted)
-      ↔ (IsOwnCommit before frame hand × IsPermitted hand reads frame
-      × IsLive (server_of before) frame × (max_number ≤ (server_of before).store.last_commit))
-  pub faults : IfErr result (λ fault. (fault ≡ office.Foreign)
-      ⊎ (fault ≡ office.NotHeld) ⊎ (fault ≡ office.NotLive) ⊎ (fault ≡ office.Exhausted)
-      ⊎ (fault ≡ office.Memory))
+  pub refused : IfErr result (λ fault. RefusesCommit before frame hand reads fault
+      ⊎ ((fault ≡ office.Memory) × (number : ℕ) × AllowsCommit before frame hand reads number))
   pub err : OnErr result (IsUnchanged before after × (next ≡ hand))
-  pub number : IfOk result (λ number. number ≡ (server_of before).store.last_commit + 1)
+  pub allowed : IfOk result (AllowsCommit before frame hand reads)
   pub entry : OnOk result ((entry : Entry) × (after.history ≡ before.history ++ entry ∷ [])
       × IsEntryOf hand (txn_of frame) (writes_of frame) reads entry)
   pub posts : OnOk result (Posts before.dispatcher (input_of frame) (mailbox_of before) Everybody
