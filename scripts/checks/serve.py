@@ -5,7 +5,8 @@
 - Bad input and faults at `cb_play serve`, and at `rughvadi-serve` over SQLite: frames cut, damaged,
   of strangers and of kinds for clients, headers that are none, stores that refuse, full disks,
   outputs that are closed, memory refused. Each ends with its line and status, and the store has
-  what was answered as done.
+  what was answered as done. An output that doesn't block, and is full for now, is waited for by
+  `rughvadi-serve`.
 - Streams of frames at both, and at `rughvadi-serve` over PostgreSQL: each puts out the same bytes,
   ends alike and leaves the same store, which those with a file go on with in turn.
 - Configurations: both servers take and refuse the same, but for TOML of other forms.
@@ -399,7 +400,8 @@ def main(words: list[str]) -> int:
         run_turns(tries, it)
         run_fights(tries, it)
         serve_input.tried(tries, room / "input_play", "serve", (it.play, "serve"))
-        serve_input.tried(tries, room / "input_sqlite", "over SQLite", (it.serve,))
+        more = (serve_input.waiting_output,)
+        serve_input.tried(tries, room / "input_sqlite", "over SQLite", (it.serve,), more)
         serve_engines.tried(tries, room / "engines", it.play, it.checked_serve)
         serve_configs.tried(tries, room / "configs", it.play, it.checked_serve)
         serve_found.tried(tries, room / "found", it.play, it.checked_serve)

@@ -7,6 +7,7 @@ as Done can be looked for in the store, however the server ended.
 from __future__ import annotations
 
 import contextlib
+import fcntl
 import os
 import resource
 import shutil
@@ -14,6 +15,8 @@ import signal
 import struct
 import subprocess
 import tempfile
+import termios
+import time
 from collections.abc import Iterator
 from dataclasses import dataclass
 from pathlib import Path
@@ -422,6 +425,36 @@ def reader_goes(it: Scene) -> bool:
     return right == [True, True]
 
 
+def waiting_output(it: Scene) -> bool:
+    """An output that doesn't block, and is full for now, is waited for: nothing is lost."""
+    (it.room / "given").write_bytes(it.begins() * 1000)
+    reader, writer = os.pipe()
+    size = fcntl.fcntl(writer, fcntl.F_SETPIPE_SZ, 4096)
+    os.set_blocking(writer, False)
+    given = (it.room / "given").open("rb")
+    with given, subprocess.Popen(it.words(), stdin=given, stdout=writer,
+                                 stderr=subprocess.PIPE) as process:
+        os.close(writer)
+        while process.poll() is None and (waiting(reader) < size or not is_asleep(process.pid)):
+            time.sleep(0.01)
+        out = read_some(reader, 1 << 30)
+        os.close(reader)
+        said = process.stderr.read()
+    wanted = Scene(it.room, it.server).serve((it.room / "given").read_bytes())
+    return it.ended(process.returncode, out, said) == wanted and len(out) > size
+
+
+def waiting(reader: int) -> int:
+    """How many bytes are in a pipe."""
+    return struct.unpack("i", fcntl.ioctl(reader, termios.FIONREAD, bytes(4)))[0]
+
+
+def is_asleep(process: int) -> bool:
+    """Whether each thread of a process waits for something."""
+    stats = [it.read_text() for it in Path(f"/proc/{process}/task").glob("*/stat")]
+    return all(it.rpartition(")")[2].split()[0] == "S" for it in stats)
+
+
 def frames_of(reader: int) -> bytes:
     """The next bytes, up to the end of a frame."""
     found = read_some(reader, HEADER.size)
@@ -492,8 +525,8 @@ SCENES = [
 ]
 
 
-def tried(tries, room: Path, name: str, server: tuple) -> None:
-    """Plays each scene at servers of its own, that these words start."""
+def tried(tries, room: Path, name: str, server: tuple, more: tuple = ()) -> None:
+    """Plays each scene, and these more, at servers of its own, that these words start."""
     room.mkdir()
-    for scene in SCENES:
+    for scene in (*SCENES, *more):
         tries.scene(name, scene, Scene(room, server))
