@@ -25,9 +25,9 @@
 - Commits of too many pages, too few open files, and the mode and owner of files.
 - What operators see and do: what is counted (with Debian's `promtool`, where it is there), lines of
   the log, tokens that are read again, what the service manager is told, and its unit.
-- How many commits go together, by the gateway's own code and by that of `rughvadi-serve`, over a
-  clock that is no machine's, the gateway's also without that clock; and how much room its buffers
-  keep.
+- How many commits go together, whom they wait for and how long, by the gateway's own code and by
+  that of `rughvadi-serve`, over a clock that is no machine's, the gateway's also without that
+  clock; and how much room its buffers keep.
 - A client of a wrapper that holds a page as the server becomes another: it is gone.
 - The host in C, `hosts/served.c`: copies of its store by sqlite3 while it serves, a kill, and
   frames that are none.
@@ -56,8 +56,8 @@ import sys
 from pathlib import Path
 
 import building
-from checks import bad_input, serve_configs, serve_engines, serve_found, serve_gateway, serve_host
-from checks import serve_input, serve_lives, serve_operators
+from checks import bad_input, serve_configs, serve_engines, serve_found, serve_gather
+from checks import serve_gateway, serve_host, serve_input, serve_lives, serve_operators
 from checks.built import Built
 from checks.killing import Workers, kill_often
 from checks.trying import Tries, file_faults, numbers, ran, rows_of
@@ -339,64 +339,12 @@ def run_fights(tries: Tries, it: Built) -> None:
         tries.told(f"{clients} clients fight, in {order} order", right, f"{counters}\n{said}")
 
 
-# ---- commits that go together ----
-
-# Clients, microseconds of a sync, of each commit at the server, between two that come and of a
-# drawn delay; and how many commits a second there are at least. Where a sync takes 3 ms the gateway
-# waits for all; where it takes 0.15 ms, for few.
-GATHERED = {
-    (1, 3150, 25, 30, 20): 300, (4, 3150, 25, 30, 20): 1170, (16, 3150, 25, 30, 20): 3900,
-    (32, 3150, 25, 30, 20): 6400, (32, 3150, 25, 60, 20): 5300, (32, 3150, 25, 60, 300): 4800,
-    (2, 3150, 25, 30, 3000): 260, (16, 150, 25, 30, 20): 18000, (32, 150, 25, 30, 20): 27500,
-}
-
-
-# The same of `rughvadi-serve`, whose clients are behind a gateway that hands a frame on in 3.3 us:
-# the third number is of each commit, and the last the mean of a drawn delay. Where a sync takes 3
-# ms it waits for all, and where it takes 0.1 ms for nobody, if that is better.
-PACED = {
-    (2, 100, 5, 3.3, 5): 12400, (4, 100, 5, 3.3, 5): 22200, (16, 100, 5, 3.3, 5): 54000,
-    (32, 100, 5, 3.3, 5): 82000, (16, 500, 5, 3.3, 5): 21600, (32, 500, 5, 3.3, 5): 34300,
-    (2, 3000, 5, 3.3, 5): 615, (16, 3000, 5, 3.3, 5): 4700, (32, 3000, 5, 3.3, 5): 8900,
-    (32, 100, 5, 3.3, 300): 54000, (16, 3000, 5, 3.3, 300): 3640, (32, 3000, 5, 3.3, 300): 6770,
-}
-
-
-def gathered(tries: Tries, model: Path, wanted: dict[tuple, int], how: str) -> None:
-    """A model's runs, each with so many commits a second at least."""
-    for words, least in wanted.items():
-        said = ran(model, *words).stdout.decode().strip()
-        name = f"commits of {words[0]} {how}, syncs of {words[1]} us"
-        tries.told(name, int((said or "0").split()[0]) >= least, said)
-
-
-def run_pace(tries: Tries, it: Built) -> None:
-    """How `rughvadi-serve` gathers commits, by its own code over a clock that is no machine's."""
-    model = building.in_c("pace_model", it.room, f"-I{building.TOP}/hosts/serve", "-lm")
-    gathered(tries, model, PACED, "go together, by other engines")
-
-
-def run_gather(tries: Tries, it: Built) -> None:
-    """How the gateway gathers commits, by its own code over a clock that is no machine's."""
-    flags = ["-D_GNU_SOURCE", f"-I{building.TOP}/hosts/gateway", "-lm"]
-    model = building.in_c("gather_model", it.room, *flags)
-    gathered(tries, model, GATHERED, "go together")
-    said = ran(model, 4, 150, 25, 30, 20, "clockless", timeout=60).stdout.decode().strip()
-    right = int((said or "0").split()[0]) >= 5000
-    tries.told("commits go on without a clock, and one unanswered", right, said)
-    said = ran(building.in_c("room_model", it.room, *flags)).stdout.decode().strip()
-    first, second, third = map(int, said.split())
-    right = first <= 1 << 16 and second <= 1 << 16 and 5 << 20 <= third <= 20 << 20
-    tries.told("room that isn't used is given back", right, said)
-
-
 def main(words: list[str]) -> int:
     built, (kills, seed) = numbers(words, "serve [--built] [KILLS [SEED]]", 200, 1)
     tries = Tries()
     with building.a_room() as room:
         it = Built(room, built)
-        run_gather(tries, it)
-        run_pace(tries, it)
+        serve_gather.tried(tries, room)
         run_turns(tries, it)
         run_fights(tries, it)
         serve_input.tried(tries, room / "input_play", "serve", (it.play, "serve"))

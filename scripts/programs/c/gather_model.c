@@ -5,48 +5,15 @@
  * many commits there were a second, and how many in a batch. With CLOCKLESS the gateway has no
  * clock but its ticks, and what client 0 commits alone is never answered. Nothing in it rests on
  * how busy the machine is. */
-#include <stdint.h>
-
-static int is_clockless;
-static uint64_t clock_now, timer_at;
-static uint64_t model_hrtime(void);
-static int model_settime(uint64_t nanoseconds);
-
-#include <sys/timerfd.h>
-#include <unistd.h>
-#include <uv.h>
-#define uv_hrtime model_hrtime
-#define timerfd_create(clock, flags) (is_clockless ? -1 : 3)
-#define timerfd_settime(fd, flags, time, old)                                                   \
-  model_settime((uint64_t)(time)->it_value.tv_sec * 1000000000 + (uint64_t)(time)->it_value.tv_nsec)
-#define uv_poll_init(loop, poll, fd) 0
-#define uv_poll_start(poll, events, call) (is_due = (call))
-#define read(fd, at, size) ((ssize_t)(*(at) = 1, sizeof *(at)))
-#define close(fd) ((void)(fd))
-static uv_poll_cb is_due;
-#include "bytes.c"
-#include "frame.c"
-#include "gather.c"
-#undef read
+#include "gather_clock.h"
 
 #include <math.h>
 #include <stdio.h>
 
 enum { BODY = 4122, TICK = 500000000 };
-static const uint64_t NEVER = UINT64_MAX;
 static uint64_t next_of[MOST_CLIENTS], answer_at, tick_at = TICK, sync_time, each_time;
 static unsigned out[MOST_CLIENTS], out_count;
 static uint64_t batches, commits;
-
-static uint64_t model_hrtime(void) { return clock_now; }
-
-static int model_settime(uint64_t nanoseconds) {
-  if (is_clockless) {
-    return -1;
-  }
-  timer_at = clock_now + nanoseconds;
-  return 0;
-}
 
 static bool taken(void *owner, const uint8_t *bytes, size_t size) {
   (void)owner;
@@ -97,9 +64,7 @@ static void step(struct gather *gather, unsigned clients, uint64_t between, uint
     tick_at += TICK;
     gather_tick(gather);
   } else if (timer_at <= next_of[first] && timer_at <= answer_at) {
-    clock_now = timer_at;
-    timer_at = NEVER;
-    is_due(&gather->poll, 0, UV_READABLE);
+    go_on(gather);
   } else if (answer_at <= next_of[first]) {
     clock_now = answer_at;
     answer(gather, between, think);
