@@ -3,6 +3,7 @@ own. Where no store is needed that keeps its promise, a program stands in for it
 from __future__ import annotations
 
 import os
+import select
 import signal
 import socket
 import stat
@@ -17,8 +18,8 @@ from pathlib import Path
 import building
 from checks.bad_input import Peer, refused, token_of
 from checks.frames import (
-    ABORT_NOW, ASK_READ, ASK_WRITE, CALLBACK, COMMIT, DROP, GIVE_BACK, GRANTED, HEADER, HELLO,
-    IN_USE, frame, of_read,
+    ABORT_NOW, ASK_READ, ASK_WRITE, CALLBACK, COMMIT, DOWNGRADE, DOWNGRADED, DROP, GIVE_BACK,
+    GRANTED, HEADER, HELLO, IN_USE, MAY_WRITE, frame, of_read, of_write,
 )
 from checks.trying import ran
 from serving import Gateway, wait_for
@@ -223,6 +224,55 @@ def aborts_are_owed(scene: Scene) -> bool:
         peer.welcome().say(ASK_WRITE, of_read(1, 3) + bytes(7) + b"\1")
         right = peer.hear()[0] == ABORT_NOW
         return right and goes_on_saying(peer, frame(HELLO, peer.client, peer.incarnation), 20)
+
+
+def drops_that_cross(scene: Scene) -> bool:
+    """The abort of a transaction that was dropped before it came wants no answer."""
+    gateway = scene.served("--silence", str(SILENCE), command=scene.stand_in("--recall"))
+    with Peer(gateway, 1) as peer:
+        ask = of_read(1, 3) + struct.pack(">Q", 1)
+        both = (ASK_WRITE, ask), (DROP, struct.pack(">Q", 1))
+        client, incarnation = peer.welcome().client, peer.incarnation
+        peer.says(b"".join(frame(kind, client, incarnation, body) for kind, body in both))
+        return peer.hear()[0] == ABORT_NOW and not peer.is_closed(3 * SILENCE)
+
+
+def downgrades_are_owed(scene: Scene) -> bool:
+    """One that is to give up its permission to write, and only says that it is alive, is closed;
+    one that did so isn't."""
+    gateway = scene.served("--silence", str(SILENCE), command=scene.stand_in("--downgrade"))
+    with Peer(gateway, 1) as peer, Peer(gateway, 2) as other:
+        for each in (peer, other):
+            each.welcome().say(ASK_WRITE, of_write(1, 3, 7))
+            if [each.hear()[0] for _ in range(2)] != [MAY_WRITE, DOWNGRADE]:
+                return False
+        other.say(DOWNGRADED, struct.pack(">IQQ", 3, 7, 0))
+        is_gone = goes_on_saying(peer, frame(HELLO, peer.client, peer.incarnation), 20)
+        return is_gone and not other.is_closed(SILENCE)
+
+
+def unheard_answers(scene: Scene) -> bool:
+    """While the server takes nothing clients aren't heard, and no answer of theirs is late."""
+    gateway = scene.served("--silence", str(SILENCE), command=scene.stand_in("--recall"))
+    (server,) = gateway.servers()
+    with Peer(gateway, 1) as peer, Peer(gateway, 2) as other:
+        named, said = called_back(peer.welcome(), 3), frame(HELLO, other.client, other.incarnation)
+        os.kill(server, signal.SIGSTOP)
+        other.socket.setblocking(False)
+        while select.select([], [other.socket], [], 2)[1]:
+            other.says(said * 4096)
+        peer.say(GIVE_BACK, named)
+        stays = not peer.is_closed(3 * SILENCE)
+        os.kill(server, signal.SIGCONT)
+        return stays and not peer.is_closed(2 * SILENCE)
+
+
+def one_large_frame(scene: Scene) -> bool:
+    """A frame that is longer than what may wait goes all the same, where nothing waits."""
+    gateway = scene.served("--buffer", "100")
+    with Peer(gateway, 1) as peer:
+        peer.welcome().say(ASK_READ, of_read(1, 3))
+        return peer.hear()[0] == GRANTED
 
 
 def slow_frame(scene: Scene) -> bool:
@@ -456,9 +506,10 @@ def listener_left(scene: Scene) -> bool:
 
 SCENES = [
     strangers_at_the_port, strangers_at_the_socket, greetings_that_are_there, slow_greeting,
-    told_of_strangers, bytes_are_no_answer, answers_count, aborts_are_owed, slow_frame,
-    announced_lives, unannounced_servers, announced_later, stops_while_it_waits, silent_servers,
-    databases_elsewhere, owned_files, held_outputs, bounded_commits, open_files, listener_left,
+    told_of_strangers, bytes_are_no_answer, answers_count, aborts_are_owed, drops_that_cross,
+    downgrades_are_owed, unheard_answers, one_large_frame, slow_frame, announced_lives,
+    unannounced_servers, announced_later, stops_while_it_waits, silent_servers, databases_elsewhere,
+    owned_files, held_outputs, bounded_commits, open_files, listener_left,
 ]
 
 

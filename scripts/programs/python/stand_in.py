@@ -3,10 +3,11 @@ wants one that does what no real server does.
 
 Each page is zeros, each ask is granted at once and each Commit is done: so it keeps no promise.
 With --recall each page is called back as soon as it was granted, and each transaction that asks to
-write is to abort. With --floor it announces that floor of its life once the file of --wait, if that
-is said, is there. While the file of --mute is there it reads and says nothing. With --hold a
-process of its own holds its output as long as that file is there; with --chatter it says frames
-meanwhile. With --note the file of that name gets its DATABASE.
+write is to abort. With --downgrade each permission to write is called back once it was given. With
+--floor it announces that floor of its life once the file of --wait, if that is said, is there.
+While the file of --mute is there it reads and says nothing. With --hold a process of its own holds
+its output as long as that file is there; with --chatter it says frames meanwhile. With --note the
+file of that name gets its DATABASE.
 """
 
 from __future__ import annotations
@@ -20,7 +21,7 @@ import tomllib
 
 HEADER = struct.Struct(">BBHQI")
 HELLO, ASK_READ, ASK_WRITE, COMMIT = 1, 2, 3, 6
-WELCOME, GRANTED, MAY_WRITE, CALLBACK, DONE, ABORT_NOW = 65, 66, 67, 68, 69, 70
+WELCOME, GRANTED, MAY_WRITE, CALLBACK, DONE, ABORT_NOW, DOWNGRADE = range(65, 72)
 
 
 def said(kind: int, client: int, incarnation: int, body: bytes = b"") -> bytes:
@@ -28,8 +29,9 @@ def said(kind: int, client: int, incarnation: int, body: bytes = b"") -> bytes:
 
 
 class Server:
-    def __init__(self, page_size: int, recalls: bool) -> None:
-        self.page_size, self.recalls, self.grants, self.commits = page_size, recalls, 0, 0
+    def __init__(self, page_size: int, recalls: bool, downgrades: bool) -> None:
+        self.page_size, self.recalls, self.downgrades = page_size, recalls, downgrades
+        self.grants = self.commits = 0
 
     def answer(self, kind: int, client: int, incarnation: int, body: bytes) -> bytes:
         """What is said to a frame."""
@@ -45,7 +47,9 @@ class Server:
         if kind == ASK_WRITE and self.recalls:
             return said(ABORT_NOW, client, incarnation, body[:8])
         if kind == ASK_WRITE:
-            return said(MAY_WRITE, client, incarnation, body)
+            downgrade = said(DOWNGRADE, client, incarnation, body[8:] + bytes(8))
+            may_write = said(MAY_WRITE, client, incarnation, body)
+            return may_write + downgrade if self.downgrades else may_write
         if kind == COMMIT:
             self.commits += 1
             return said(DONE, client, incarnation, body[:8] + struct.pack(">Q", self.commits))
@@ -88,8 +92,8 @@ def serve(server: Server, mute: str | None) -> None:
 def main() -> None:
     words = argparse.ArgumentParser()
     words.add_argument("--floor", type=int)
-    words.add_argument("--recall", action="store_true")
-    words.add_argument("--chatter", action="store_true")
+    for word in ("--recall", "--downgrade", "--chatter"):
+        words.add_argument(word, action="store_true")
     for word in ("--wait", "--mute", "--hold", "--note"):
         words.add_argument(word)
     words.add_argument("config")
@@ -106,7 +110,7 @@ def main() -> None:
     if it.floor is not None:
         sys.stdout.buffer.write(said(0, 0, it.floor))
         sys.stdout.buffer.flush()
-    serve(Server(page_size, it.recall), it.mute)
+    serve(Server(page_size, it.recall, it.downgrade), it.mute)
 
 
 if __name__ == "__main__":
