@@ -21,6 +21,7 @@ from checks.frames import (
     ABORT_NOW, ASK_READ, ASK_WRITE, CALLBACK, COMMIT, DOWNGRADE, DOWNGRADED, DROP, GIVE_BACK,
     GRANTED, HEADER, HELLO, IN_USE, MAY_WRITE, frame, of_read, of_write,
 )
+from checks.serve_input import waiting
 from checks.trying import ran
 from serving import Gateway, wait_for
 
@@ -102,6 +103,46 @@ def strangers_at_the_port(scene: Scene) -> bool:
 def strangers_at_the_socket(scene: Scene) -> bool:
     gateway = scene.served("--patience", "60", "--greeting", "60")
     return with_strangers(gateway, [None], 0)
+
+
+def places_for_strangers(scene: Scene) -> bool:
+    """So many may be about to greet, of one address and in all. With one more the first goes."""
+    right = []
+    for most, addresses in ((32, sources(1)), (64, sources(4))):
+        gateway = scene.served("--patience", "60", "--greeting", "60", has_port=True)
+        strangers = [Peer(gateway, None, addresses[at % len(addresses)]) for at in range(most + 1)]
+        right.append(strangers[0].is_closed() and not strangers[1].is_closed(1))
+        for peer in strangers:
+            peer.socket.close()
+    return right == [True, True]
+
+
+def names_of_others(scene: Scene) -> bool:
+    """A number that no client of the store has is answered so, and a name that no store has."""
+    gateway = scene.served()
+    answers = [answer_to(gateway, client)[0] for client in (0, LIMITS[0] - 1, LIMITS[0], 31)]
+    for name in (b"mai", b"mains", b"Main", b""):
+        with Peer(gateway) as peer:
+            answers.append(peer.greeted(token_of(gateway, 0), name)[1])
+    return answers == [0, 0, 4, 4, 3, 3, 3, 3]
+
+
+def is_full(peer: Peer) -> bool:
+    """Whether no more comes of what it doesn't read."""
+    before = waiting(peer.socket.fileno())
+    time.sleep(0.3)
+    return 0 < before == waiting(peer.socket.fileno())
+
+
+def stops_beside_a_full_output(scene: Scene) -> bool:
+    """A gateway that stops waits for a client that reads nothing, and not for ever."""
+    gateway = scene.served("--patience", "2")
+    with Peer(gateway, 1) as peer:
+        ask = frame(ASK_READ, peer.welcome().client, peer.incarnation, of_read(1, 3))
+        peer.socket.sendall(ask * 8000)
+        wait_for(lambda: is_full(peer), 60)
+        begun = time.monotonic()
+        return gateway.stop() == 0 and time.monotonic() - begun < 20
 
 
 def comes(gateway: Gateway, client: int = 7) -> bool:
@@ -506,10 +547,11 @@ def listener_left(scene: Scene) -> bool:
 
 SCENES = [
     strangers_at_the_port, strangers_at_the_socket, greetings_that_are_there, slow_greeting,
-    told_of_strangers, bytes_are_no_answer, answers_count, aborts_are_owed, drops_that_cross,
-    downgrades_are_owed, unheard_answers, one_large_frame, slow_frame, announced_lives,
-    unannounced_servers, announced_later, stops_while_it_waits, silent_servers, databases_elsewhere,
-    owned_files, held_outputs, bounded_commits, open_files, listener_left,
+    places_for_strangers, names_of_others, told_of_strangers, bytes_are_no_answer, answers_count,
+    aborts_are_owed, drops_that_cross, downgrades_are_owed, unheard_answers, one_large_frame,
+    slow_frame, announced_lives, unannounced_servers, announced_later, stops_while_it_waits,
+    stops_beside_a_full_output, silent_servers, databases_elsewhere, owned_files, held_outputs,
+    bounded_commits, open_files, listener_left,
 ]
 
 
