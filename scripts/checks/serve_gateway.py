@@ -379,6 +379,25 @@ def announced_later(scene: Scene) -> bool:
     return early[1] == 0 and gone and (what, floor < number < floor + 10) == (0, True)
 
 
+def rests_between_starts(scene: Scene) -> bool:
+    """A server that ends at once is started again, each time after twice as long."""
+    starts = scene.room / "starts"
+    scene.gateway(command=("sh", "-c", f"date +%s%N >> {starts}"))
+    wait_for(lambda: starts.exists() and len(starts.read_text().splitlines()) >= 5, 60)
+    times = [int(it) for it in starts.read_text().splitlines()]
+    return len(times) >= 5 and times[4] - times[0] >= 3_000_000_000
+
+
+def ends_as_its_server(scene: Scene) -> bool:
+    """A gateway that stops ends with 1 where its server then ends with a fault, else with 0."""
+    statuses = []
+    for status in (0, 3):
+        gateway = scene.gateway(command=("sh", "-c", f"cat > {scene.room}/taken; exit {status}"))
+        wait_for(gateway.servers, 60)
+        statuses.append(gateway.stop())
+    return statuses == [0, 1]
+
+
 def stops_while_it_waits(scene: Scene) -> bool:
     """A gateway whose server waits for its store ends at once."""
     gateway = scene.gateway("--announced", command=scene.stand_in("--wait", scene.room / "never"))
@@ -549,9 +568,9 @@ SCENES = [
     strangers_at_the_port, strangers_at_the_socket, greetings_that_are_there, slow_greeting,
     places_for_strangers, names_of_others, told_of_strangers, bytes_are_no_answer, answers_count,
     aborts_are_owed, drops_that_cross, downgrades_are_owed, unheard_answers, one_large_frame,
-    slow_frame, announced_lives, unannounced_servers, announced_later, stops_while_it_waits,
-    stops_beside_a_full_output, silent_servers, databases_elsewhere, owned_files, held_outputs,
-    bounded_commits, open_files, listener_left,
+    slow_frame, announced_lives, unannounced_servers, announced_later, rests_between_starts,
+    ends_as_its_server, stops_while_it_waits, stops_beside_a_full_output, silent_servers,
+    databases_elsewhere, owned_files, held_outputs, bounded_commits, open_files, listener_left,
 ]
 
 
