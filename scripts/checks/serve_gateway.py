@@ -379,6 +379,12 @@ def announced_later(scene: Scene) -> bool:
     return early[1] == 0 and gone and (what, floor < number < floor + 10) == (0, True)
 
 
+def announced_twice(scene: Scene) -> bool:
+    """A server that announces another life amid its frames puts out no frames, and is ended."""
+    gateway = scene.gateway(command=scene.stand_in("--floor", 5, "--floor", 6))
+    return wait_for(lambda: "its server puts out no frames" in gateway.log(), 60)
+
+
 def rests_between_starts(scene: Scene) -> bool:
     """A server that ends at once is started again, each time after twice as long."""
     starts = scene.room / "starts"
@@ -568,9 +574,10 @@ SCENES = [
     strangers_at_the_port, strangers_at_the_socket, greetings_that_are_there, slow_greeting,
     places_for_strangers, names_of_others, told_of_strangers, bytes_are_no_answer, answers_count,
     aborts_are_owed, drops_that_cross, downgrades_are_owed, unheard_answers, one_large_frame,
-    slow_frame, announced_lives, unannounced_servers, announced_later, rests_between_starts,
-    ends_as_its_server, stops_while_it_waits, stops_beside_a_full_output, silent_servers,
-    databases_elsewhere, owned_files, held_outputs, bounded_commits, open_files, listener_left,
+    slow_frame, announced_lives, unannounced_servers, announced_later, announced_twice,
+    rests_between_starts, ends_as_its_server, stops_while_it_waits, stops_beside_a_full_output,
+    silent_servers, databases_elsewhere, owned_files, held_outputs, bounded_commits, open_files,
+    listener_left,
 ]
 
 

@@ -4,10 +4,10 @@ wants one that does what no real server does.
 Each page is zeros, each ask is granted at once and each Commit is done: so it keeps no promise.
 With --recall each page is called back as soon as it was granted, and each transaction that asks to
 write is to abort. With --downgrade each permission to write is called back once it was given. With
---floor it announces that floor of its life once the file of --wait, if that is said, is there.
-While the file of --mute is there it reads and says nothing. With --hold a process of its own holds
-its output as long as that file is there; with --chatter it says frames meanwhile. With --note the
-file of that name gets its DATABASE.
+--floor, which may be said more than once, it announces that floor of its life once the file of
+--wait, if that is said, is there. While the file of --mute is there it reads and says nothing. With
+--hold a process of its own holds its output as long as that file is there; with --chatter it says
+frames meanwhile. With --note the file of that name gets its DATABASE.
 """
 
 from __future__ import annotations
@@ -91,7 +91,7 @@ def serve(server: Server, mute: str | None) -> None:
 
 def main() -> None:
     words = argparse.ArgumentParser()
-    words.add_argument("--floor", type=int)
+    words.add_argument("--floor", type=int, action="append", default=[])
     for word in ("--recall", "--downgrade", "--chatter"):
         words.add_argument(word, action="store_true")
     for word in ("--wait", "--mute", "--hold", "--note"):
@@ -107,9 +107,8 @@ def main() -> None:
     wait_while(lambda: it.wait and not os.path.exists(it.wait))
     if it.hold:
         hold_output(it.hold, it.chatter)
-    if it.floor is not None:
-        sys.stdout.buffer.write(said(0, 0, it.floor))
-        sys.stdout.buffer.flush()
+    sys.stdout.buffer.write(b"".join(said(0, 0, floor) for floor in it.floor))
+    sys.stdout.buffer.flush()
     serve(Server(page_size, it.recall, it.downgrade), it.mute)
 
 
