@@ -434,6 +434,16 @@ def silent_servers(scene: Scene) -> bool:
     return asked and greeted and served and gateway.servers() not in (first, second)
 
 
+def one_server_a_store(scene: Scene) -> bool:
+    """A gateway waits for a file that another one serves, and serves it once that one has ended."""
+    first = scene.served()
+    second = scene.gateway(database_word=str(first.database()))
+    told = wait_for(lambda: "another server has it; waiting" in second.log(), 60)
+    before = answer_to(second, 1)[0]
+    first.stop()
+    return told and before == 5 and wait_for(lambda: answer_to(second, 1)[0] == 0, 60)
+
+
 def databases_elsewhere(scene: Scene) -> bool:
     """A URI or conninfo stands in quotes in a file of stores. No file is locked for it, and none
     with a password is taken, nor said."""
@@ -576,8 +586,8 @@ SCENES = [
     aborts_are_owed, drops_that_cross, downgrades_are_owed, unheard_answers, one_large_frame,
     slow_frame, announced_lives, unannounced_servers, announced_later, announced_twice,
     rests_between_starts, ends_as_its_server, stops_while_it_waits, stops_beside_a_full_output,
-    silent_servers, databases_elsewhere, owned_files, held_outputs, bounded_commits, open_files,
-    listener_left,
+    silent_servers, one_server_a_store, databases_elsewhere, owned_files, held_outputs,
+    bounded_commits, open_files, listener_left,
 ]
 
 
