@@ -23,7 +23,7 @@ from checks.frames import (
 )
 from checks.serve_input import CLIENTS, PAGES, Scene
 from checks.trying import PIPES, opened, rows_of
-from serving import HeldSyncs
+from serving import HeldSyncs, wait_for
 
 KILLS = 30
 FLOOD = 1 << 24  # bytes that come while a sync is held
@@ -232,6 +232,15 @@ def idle(it: Store) -> str:
     return "" if heard == WELCOME and taken <= 0.1 else f"{heard}, {taken} s"
 
 
+def beats(it: Store) -> str:
+    """A server to which nobody speaks goes on to write its beat, and nothing else."""
+    with it.served() as server:
+        beat, *rest = it.row("beat", "floor", "below", "commits")
+        goes_on = wait_for(lambda: it.row("beat")[0] > beat + 1, 60)
+        same = it.row("floor", "below", "commits") == rest and server.process.poll() is None
+    return "" if goes_on and same else f"{goes_on}, {same}"
+
+
 def in_turn(it: Store) -> str:
     """Both servers in turn over one file: each life begins above those of the other."""
     floors, kinds = [], [it.serve, it.play]
@@ -248,12 +257,15 @@ def in_turn(it: Store) -> str:
     return "" if rise else f"{floors}"
 
 
-def commit_under_a_sync(room: Path, words: tuple, reads: bool) -> str:
-    """While the sync of a commit is held it isn't answered; others' reads are, where they may."""
+def commit_under_a_sync(room: Path, words: tuple, reads: bool, flood: int = 0) -> str:
+    """While the sync of a commit is held it isn't answered; others' reads are, where they may. So
+    many bytes of frames come before, which are passed over."""
     store, syncs = Store(room, words, (), None), HeldSyncs(room)
     server = Server(store.words(), env={**os.environ, **syncs.env})
     asks = [frame(ASK_READ, it, server.floor, of_read(1, it)) for it in range(2)]
+    unread = frame(ASK_READ, 0, server.floor, of_read(1, PAGES))
     try:
+        server.say(unread * (flood // len(unread)))
         server.say(*(frame(HELLO, it, server.floor) for it in range(2)), asks[0])
         heard = [server.hear()[0] for _ in range(3)]
         syncs.begin()
@@ -271,8 +283,8 @@ def commit_under_a_sync(room: Path, words: tuple, reads: bool) -> str:
 
 
 def read_beside_a_sync(room: Path, serve: Path) -> str:
-    """`rughvadi-serve` answers reads while the sync of a commit is held."""
-    return commit_under_a_sync(room, (serve,), True)
+    """`rughvadi-serve` answers reads while the sync of a commit is held, whatever it has read."""
+    return commit_under_a_sync(room, (serve,), True, FLOOD // 2)
 
 
 def end_beside_a_sync(room: Path, serve: Path) -> str:
@@ -371,7 +383,8 @@ def tried(tries, room: Path, serve: Path, play: tuple) -> None:
         }
         if postgres.is_there():
             cluster = postgres.Cluster(room / "cluster").start()
-            engines["PostgreSQL"] = ((serve,), cluster, [*OF_ALL, beside_what_waits, fenced])
+            of_cluster = [*OF_ALL, beside_what_waits, fenced, beats]
+            engines["PostgreSQL"] = ((serve,), cluster, of_cluster)
             stack.callback(cluster.stop)
         for name, (words, cluster, scenes) in engines.items():
             for scene in scenes:
