@@ -19,7 +19,7 @@ import building
 from checks.bad_input import Peer, refused, token_of
 from checks.frames import (
     ABORT_NOW, ASK_READ, ASK_WRITE, CALLBACK, COMMIT, DOWNGRADE, DOWNGRADED, DROP, GIVE_BACK,
-    GRANTED, HEADER, HELLO, IN_USE, MAY_WRITE, frame, of_read, of_write,
+    GRANTED, HEADER, HELLO, IN_USE, MAY_WRITE, WELCOME, frame, of_read, of_write,
 )
 from checks.serve_input import waiting
 from checks.trying import ran
@@ -316,6 +316,16 @@ def one_large_frame(scene: Scene) -> bool:
         return peer.hear()[0] == GRANTED
 
 
+def former_incarnations(scene: Scene) -> bool:
+    """What a server says to a client's former incarnation doesn't come to the present one."""
+    gateway = scene.served(command=scene.stand_in("--stale"))
+    with Peer(gateway, 1) as peer:
+        peer.say(HELLO)
+        heard = HEADER.unpack(peer.exactly(HEADER.size))
+        peer.say(ASK_READ, of_read(1, 3))
+        return heard[1:4] == (WELCOME, 1, peer.incarnation) and peer.hear()[0] == GRANTED
+
+
 def slow_frame(scene: Scene) -> bool:
     """A frame has its time from its first byte: no later one renews it."""
     gateway = scene.served("--patience", "2")
@@ -584,10 +594,10 @@ SCENES = [
     strangers_at_the_port, strangers_at_the_socket, greetings_that_are_there, slow_greeting,
     places_for_strangers, names_of_others, told_of_strangers, bytes_are_no_answer, answers_count,
     aborts_are_owed, drops_that_cross, downgrades_are_owed, unheard_answers, one_large_frame,
-    slow_frame, announced_lives, unannounced_servers, announced_later, announced_twice,
-    rests_between_starts, ends_as_its_server, stops_while_it_waits, stops_beside_a_full_output,
-    silent_servers, one_server_a_store, databases_elsewhere, owned_files, held_outputs,
-    bounded_commits, open_files, listener_left,
+    former_incarnations, slow_frame, announced_lives, unannounced_servers, announced_later,
+    announced_twice, rests_between_starts, ends_as_its_server, stops_while_it_waits,
+    stops_beside_a_full_output, silent_servers, one_server_a_store, databases_elsewhere,
+    owned_files, held_outputs, bounded_commits, open_files, listener_left,
 ]
 
 

@@ -4,10 +4,11 @@ wants one that does what no real server does.
 Each page is zeros, each ask is granted at once and each Commit is done: so it keeps no promise.
 With --recall each page is called back as soon as it was granted, and each transaction that asks to
 write is to abort. With --downgrade each permission to write is called back once it was given. With
---floor, which may be said more than once, it announces that floor of its life once the file of
---wait, if that is said, is there. While the file of --mute is there it reads and says nothing. With
---hold a process of its own holds its output as long as that file is there; with --chatter it says
-frames meanwhile. With --note the file of that name gets its DATABASE.
+--stale each client is welcomed in the incarnation before first. With --floor, which may be said
+more than once, it announces that floor of its life once the file of --wait, if that is said, is
+there. While the file of --mute is there it reads and says nothing. With --hold a process of its own
+holds its output as long as that file is there; with --chatter it says frames meanwhile. With --note
+the file of that name gets its DATABASE.
 """
 
 from __future__ import annotations
@@ -29,14 +30,15 @@ def said(kind: int, client: int, incarnation: int, body: bytes = b"") -> bytes:
 
 
 class Server:
-    def __init__(self, page_size: int, recalls: bool, downgrades: bool) -> None:
-        self.page_size, self.recalls, self.downgrades = page_size, recalls, downgrades
-        self.grants = self.commits = 0
+    def __init__(self, page_size: int, it: argparse.Namespace) -> None:
+        self.page_size, self.recalls, self.downgrades = page_size, it.recall, it.downgrade
+        self.is_stale, self.grants, self.commits = it.stale, 0, 0
 
     def answer(self, kind: int, client: int, incarnation: int, body: bytes) -> bytes:
         """What is said to a frame."""
         if kind == HELLO:
-            return said(WELCOME, client, incarnation)
+            former = said(WELCOME, client, incarnation - 1) if self.is_stale else b""
+            return former + said(WELCOME, client, incarnation)
         if kind == ASK_READ:
             self.grants += 1
             named = body[8:12] + struct.pack(">Q", self.grants)
@@ -92,7 +94,7 @@ def serve(server: Server, mute: str | None) -> None:
 def main() -> None:
     words = argparse.ArgumentParser()
     words.add_argument("--floor", type=int, action="append", default=[])
-    for word in ("--recall", "--downgrade", "--chatter"):
+    for word in ("--recall", "--downgrade", "--stale", "--chatter"):
         words.add_argument(word, action="store_true")
     for word in ("--wait", "--mute", "--hold", "--note"):
         words.add_argument(word)
@@ -109,7 +111,7 @@ def main() -> None:
         hold_output(it.hold, it.chatter)
     sys.stdout.buffer.write(b"".join(said(0, 0, floor) for floor in it.floor))
     sys.stdout.buffer.flush()
-    serve(Server(page_size, it.recall, it.downgrade), it.mute)
+    serve(Server(page_size, it), it.mute)
 
 
 if __name__ == "__main__":
