@@ -2,6 +2,7 @@
 own. Where no store is needed that keeps its promise, a program stands in for its server."""
 from __future__ import annotations
 
+import fcntl
 import os
 import select
 import signal
@@ -11,6 +12,7 @@ import struct
 import subprocess
 import sys
 import tempfile
+import termios
 import time
 from dataclasses import dataclass, field
 from pathlib import Path
@@ -21,12 +23,13 @@ from checks.frames import (
     ABORT_NOW, ASK_READ, ASK_WRITE, CALLBACK, COMMIT, DOWNGRADE, DOWNGRADED, DROP, GIVE_BACK,
     GRANTED, HEADER, HELLO, IN_USE, MAY_WRITE, WELCOME, frame, of_read, of_write,
 )
-from checks.serve_input import waiting
+from checks.serve_input import is_asleep
 from checks.trying import ran
 from serving import Gateway, wait_for
 
 LIMITS = (8, 64, 256, 32, 1)
 STRANGERS = 200
+ASKS = 8000  # whose answers fill more than a socket has room for
 
 
 @dataclass
@@ -127,22 +130,42 @@ def names_of_others(scene: Scene) -> bool:
     return answers == [0, 0, 4, 4, 3, 3, 3, 3]
 
 
-def is_full(peer: Peer) -> bool:
-    """Whether no more comes of what it doesn't read."""
-    before = waiting(peer.socket.fileno())
-    time.sleep(0.3)
-    return 0 < before == waiting(peer.socket.fileno())
+def with_full_output(scene: Scene, patience: int) -> tuple[Gateway, Peer, int]:
+    """A client that asks for pages and reads none, and how many bytes were said to it."""
+    gateway = scene.served("--patience", str(patience))
+    peer = Peer(gateway, 1)
+    ask = frame(ASK_READ, peer.welcome().client, peer.incarnation, of_read(1, 3))
+    peer.socket.sendall(ask * ASKS)
+    wait_for(lambda: is_quiet(gateway, peer), 60)
+    return gateway, peer, ASKS * (HEADER.size + 24 + LIMITS[2])
+
+
+def is_quiet(gateway: Gateway, peer: Peer) -> bool:
+    """Whether all that the client said was read, and gateway and server wait for more."""
+    unread = fcntl.ioctl(peer.socket, termios.TIOCOUTQ, bytes(4))
+    return unread == bytes(4) and all(map(is_asleep, 2 * [gateway.process.pid, *gateway.servers()]))
 
 
 def stops_beside_a_full_output(scene: Scene) -> bool:
     """A gateway that stops waits for a client that reads nothing, and not for ever."""
-    gateway = scene.served("--patience", "2")
-    with Peer(gateway, 1) as peer:
-        ask = frame(ASK_READ, peer.welcome().client, peer.incarnation, of_read(1, 3))
-        peer.socket.sendall(ask * 8000)
-        wait_for(lambda: is_full(peer), 60)
-        begun = time.monotonic()
-        return gateway.stop() == 0 and time.monotonic() - begun < 20
+    gateway, peer, _ = with_full_output(scene, 2)
+    begun = time.monotonic()
+    status = gateway.stop()
+    peer.socket.close()
+    return status == 0 and time.monotonic() - begun < 20
+
+
+def hears_all_as_it_stops(scene: Scene) -> bool:
+    """A client that reads slowly gets all that was said to it, also once the server has ended."""
+    gateway, peer, size = with_full_output(scene, 60)
+    gateway.process.send_signal(signal.SIGTERM)
+    wait_for(lambda: not gateway.servers(), 60)
+    time.sleep(0.5)
+    heard = 0
+    while some := peer.socket.recv(1 << 16):
+        heard += len(some)
+    peer.socket.close()
+    return heard == size and gateway.process.wait(60) == 0
 
 
 def comes(gateway: Gateway, client: int = 7) -> bool:
@@ -596,8 +619,8 @@ SCENES = [
     aborts_are_owed, drops_that_cross, downgrades_are_owed, unheard_answers, one_large_frame,
     former_incarnations, slow_frame, announced_lives, unannounced_servers, announced_later,
     announced_twice, rests_between_starts, ends_as_its_server, stops_while_it_waits,
-    stops_beside_a_full_output, silent_servers, one_server_a_store, databases_elsewhere,
-    owned_files, held_outputs, bounded_commits, open_files, listener_left,
+    stops_beside_a_full_output, hears_all_as_it_stops, silent_servers, one_server_a_store,
+    databases_elsewhere, owned_files, held_outputs, bounded_commits, open_files, listener_left,
 ]
 
 
