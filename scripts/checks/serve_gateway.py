@@ -317,18 +317,27 @@ def downgrades_are_owed(scene: Scene) -> bool:
 
 def unheard_answers(scene: Scene) -> bool:
     """While the server takes nothing clients aren't heard, and no answer of theirs is late."""
-    gateway = scene.served("--silence", str(SILENCE), command=scene.stand_in("--recall"))
+    came = (answers_unheard(scene, silence) for silence in (5, 20, 60))
+    return next(filter(None, came), "") == "ok"
+
+
+def answers_unheard(scene: Scene, silence: int) -> str:
+    """So at a gateway that waits so long for answers: `ok`, `closed`, or nothing where the time was
+    over before the server's input was full."""
+    gateway = scene.served("--silence", str(silence), command=scene.stand_in("--recall"))
     (server,) = gateway.servers()
     with Peer(gateway, 1) as peer, Peer(gateway, 2) as other:
-        named, said = called_back(peer.welcome(), 3), frame(HELLO, other.client, other.incarnation)
+        said = frame(HELLO, other.client, other.incarnation)
+        end, named = time.monotonic() + silence, called_back(peer.welcome(), 3)
         os.kill(server, signal.SIGSTOP)
         other.socket.setblocking(False)
-        while select.select([], [other.socket], [], 2)[1]:
+        while select.select([], [other.socket], [], 1)[1]:
             other.says(said * 4096)
         peer.say(GIVE_BACK, named)
-        stays = not peer.is_closed(3 * SILENCE)
+        is_late = time.monotonic() >= end
+        stays = not peer.is_closed(0 if is_late else silence + 3)
         os.kill(server, signal.SIGCONT)
-        return stays and not peer.is_closed(2 * SILENCE)
+        return "" if is_late else "ok" if stays and not peer.is_closed(silence + 3) else "closed"
 
 
 def one_large_frame(scene: Scene) -> bool:

@@ -16,6 +16,7 @@ import struct
 import subprocess
 import tempfile
 import termios
+import threading
 import time
 from collections.abc import Iterator
 from dataclasses import dataclass
@@ -435,11 +436,14 @@ def waiting_output(it: Scene) -> bool:
     with given, subprocess.Popen(it.words(), stdin=given, stdout=writer,
                                  stderr=subprocess.PIPE) as process:
         os.close(writer)
+        end = threading.Timer(120, process.kill)
+        end.start()
         while process.poll() is None and (waiting(reader) < size or not is_asleep(process.pid)):
             time.sleep(0.01)
         out = read_some(reader, 1 << 30)
         os.close(reader)
         said = process.stderr.read()
+        end.cancel()
     wanted = Scene(it.room, it.server).serve((it.room / "given").read_bytes())
     return it.ended(process.returncode, out, said) == wanted and len(out) > size
 
