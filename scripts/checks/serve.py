@@ -20,8 +20,9 @@
   line or a status, while another client goes on.
 - Strangers at the gateway, beside clients that go on: connections that never greet, from one
   address and from many, and floods of greetings that are none. Clients that owe the server an
-  answer and say other things, or frames byte by byte. Servers that announce their lives, or are
-  silent; stores that are no files.
+  answer and say other things, or frames byte by byte; what is owed, and what isn't. Servers that
+  announce their lives, are silent, or end; stores that are no files, or that another one serves.
+  How the gateway ends beside clients that read slowly.
 - Commits of too many pages, too few open files, and the mode and owner of files.
 - What operators see and do: what is counted (with Debian's `promtool`, where it is there), lines of
   the log, tokens that are read again, what the service manager is told, and its unit.

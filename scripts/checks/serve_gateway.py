@@ -303,16 +303,19 @@ def drops_that_cross(scene: Scene) -> bool:
 
 def downgrades_are_owed(scene: Scene) -> bool:
     """One that is to give up its permission to write, and only says that it is alive, is closed;
-    one that did so isn't."""
+    one that did so in time isn't."""
     gateway = scene.served("--silence", str(SILENCE), command=scene.stand_in("--downgrade"))
     with Peer(gateway, 1) as peer, Peer(gateway, 2) as other:
-        for each in (peer, other):
-            each.welcome().say(ASK_WRITE, of_write(1, 3, 7))
+        end = 0.0
+        for each in (peer.welcome(), other.welcome()):
+            end = time.monotonic() + SILENCE
+            each.say(ASK_WRITE, of_write(1, 3, 7))
             if [each.hear()[0] for _ in range(2)] != [MAY_WRITE, DOWNGRADE]:
                 return False
         other.say(DOWNGRADED, struct.pack(">IQQ", 3, 7, 0))
+        is_late = time.monotonic() >= end
         is_gone = goes_on_saying(peer, frame(HELLO, peer.client, peer.incarnation), 20)
-        return is_gone and not other.is_closed(SILENCE)
+        return is_gone and (is_late or not other.is_closed(SILENCE))
 
 
 def unheard_answers(scene: Scene) -> bool:
@@ -324,7 +327,8 @@ def unheard_answers(scene: Scene) -> bool:
 def answers_unheard(scene: Scene, silence: int) -> str:
     """So at a gateway that waits so long for answers: `ok`, `closed`, or nothing where the time was
     over before the server's input was full."""
-    gateway = scene.served("--silence", str(silence), command=scene.stand_in("--recall"))
+    words = ("--silence", str(silence), "--server-silence", "0")
+    gateway = scene.served(*words, command=scene.stand_in("--recall"))
     (server,) = gateway.servers()
     with Peer(gateway, 1) as peer, Peer(gateway, 2) as other:
         said = frame(HELLO, other.client, other.incarnation)
@@ -335,9 +339,11 @@ def answers_unheard(scene: Scene, silence: int) -> str:
             other.says(said * 4096)
         peer.say(GIVE_BACK, named)
         is_late = time.monotonic() >= end
-        stays = not peer.is_closed(0 if is_late else silence + 3)
+        is_gone = not is_late and peer.is_closed(silence + 3)
         os.kill(server, signal.SIGCONT)
-        return "" if is_late else "ok" if stays and not peer.is_closed(silence + 3) else "closed"
+        if is_late:
+            return ""
+        return "closed" if is_gone or peer.is_closed(silence + 3) else "ok"
 
 
 def one_large_frame(scene: Scene) -> bool:
